@@ -1,0 +1,76 @@
+-- Kinds: the table read both ways, and the lengths that kinds settle. Assumes nothing.
+use mathlib.Core.Path.{_≡_, refl, sym, ap, _∙_, subst}
+use mathlib.Core.Logic.{_⊎_, inl, inr}
+use mathlib.Core.Bool.{Bool, true, false, cond, not, _&&_, _||_}
+use mathlib.Core.List.{List, [], _∷_}
+use Prim.Native.Nat.{ℕ, zero, suc, _+_, _≤_, _<_}
+use lib.Dec.{eqb, leb}
+use borrow.Author.Tests.{eqb-true, eqb-false, eq-eqb}
+use Rattle.texts.specs.Kinds.{Kind, kind, kinds, byCode, byText, isPartNumber, partOf, textNumber, kindOf, isKind, isStartKind, isDataKind, isEndKind, dataBlockLength, blockLength}
+use Rattle.text_laws.proofs.Rules.{by-test, never, and-split}
+
+abbrev everyRow : (Kind → Bool) → List Kind → Bool
+everyRow test [] = true
+everyRow test (k ∷ ks) = test k && everyRow test ks
+
+-- a test that every row passes is passed by the row of a kind
+by-code : (test : Kind → Bool) (rows : List Kind) (b : ℕ) → everyRow test rows ≡ true → not (eqb (byCode b rows .part) 0) ≡ true
+    → (test (byCode b rows) ≡ true) × (byCode b rows .code ≡ b)
+by-code test [] b h m = never refl m
+by-code test (k ∷ ks) b h m =
+    by-test (eqb b (k .code))
+    (λ e. rw e (and-split (test k) (everyRow test ks) h .0, sym (eqb-true b (k .code) e)))
+    (λ e. rw e (by-code test ks b (and-split (test k) (everyRow test ks) h .1) (rw e at m)))
+
+-- and by the row of a part's text, if there is one
+by-text : (test : Kind → Bool) (rows : List Kind) (p t : ℕ) → everyRow test rows ≡ true
+    → (byText p t rows ≡ kind 0 0 0) ⊎ ((test (byText p t rows) ≡ true) × (byText p t rows .part ≡ p) × (byText p t rows .text ≡ t))
+by-text test [] p t h = inl refl
+by-text test (k ∷ ks) p t h =
+    by-test (eqb p (k .part) && eqb t (k .text))
+    (λ e. let (x, y) = and-split (eqb p (k .part)) (eqb t (k .text)) e in
+    rw e (inr (and-split (test k) (everyRow test ks) h .0, sym (eqb-true p (k .part) x), sym (eqb-true t (k .text) y))))
+    (λ e. rw e (by-text test ks p t (and-split (test k) (everyRow test ks) h .1)))
+
+-- a kind's part is 1, 2 or 3
+pub kind-part : (b : ℕ) → isKind b ≡ true → isPartNumber (partOf b) ≡ true
+unfolding isKind partOf kinds isPartNumber
+kind-part b h = by-code (λ k. isPartNumber (k .part)) kinds b refl h .0
+
+-- the kind of a kind's part and text number is that kind
+pub kind-back : (b : ℕ) → isKind b ≡ true → kindOf (partOf b) (textNumber b) ≡ b
+unfolding isKind partOf textNumber kindOf kinds
+kind-back b h =
+    let (p, q) = by-code (λ k. eqb (kindOf (k .part) (k .text)) (k .code)) kinds b refl h in
+    eqb-true (kindOf (partOf b) (textNumber b)) (byCode b kinds .code) p ∙ q
+
+-- and the part and text number of a part's text are these
+pub text-back : (p t : ℕ) → isKind (kindOf p t) ≡ true → (partOf (kindOf p t) ≡ p) × (textNumber (kindOf p t) ≡ t)
+unfolding isKind partOf textNumber kindOf kinds
+text-back p t h = go (by-text (λ k. eqb (partOf (k .code)) (k .part) && eqb (textNumber (k .code)) (k .text)) kinds p t refl)
+  where
+    row : Kind
+    row = byText p t kinds
+
+    go : (row ≡ kind 0 0 0) ⊎ ((eqb (partOf (row .code)) (row .part) && eqb (textNumber (row .code)) (row .text) ≡ true) × (row .part ≡ p) × (row .text ≡ t))
+        → (partOf (row .code) ≡ p) × (textNumber (row .code) ≡ t)
+    go (inl e) = never refl (subst (λ (k : Kind). isKind (k .code) ≡ true) e h)
+    go (inr (r, a, b)) =
+        let (x, y) = and-split (eqb (partOf (row .code)) (row .part)) (eqb (textNumber (row .code)) (row .text)) r in
+        (eqb-true _ _ x ∙ a, eqb-true _ _ y ∙ b)
+
+pub data-is-kind : (b : ℕ) → isDataKind b ≡ true → isKind b ≡ true
+unfolding isDataKind
+data-is-kind b h = and-split (isKind b) (not (eqb (textNumber b) 0 || eqb (textNumber b) 11)) h .0
+
+pub start-is-kind : (b : ℕ) → isStartKind b ≡ true → isKind b ≡ true
+unfolding isStartKind
+start-is-kind b h = and-split (isKind b) (eqb (textNumber b) 0) h .0
+
+pub end-is-kind : (b : ℕ) → isEndKind b ≡ true → isKind b ≡ true
+unfolding isEndKind
+end-is-kind b h = and-split (isKind b) (eqb (textNumber b) 11) h .0
+
+pub data-block-length : (b : ℕ) → isDataKind b ≡ true → blockLength b ≡ dataBlockLength (partOf b)
+unfolding blockLength
+data-block-length b h = rw h

@@ -1,0 +1,233 @@
+-- Parts: a part's length is settled by its start text, and so are the places of its texts. Assumes nothing.
+use mathlib.Core.Path.{_≡_, refl, sym, ap, ap₂, _∙_, subst}
+use mathlib.Core.Bool.{Bool, true, _&&_}
+use mathlib.Core.List.{List, [], _∷_, _++_, append-assoc, append-nil, map}
+use Prim.Native.Nat.{ℕ, zero, suc, _+_, _*_, _-_, _≤_, _<_}
+use native.Mathlib.Nat.{suc-mul, zero-mul}
+use native.Mathlib.Omega.{arith}
+use lib.Dec.{eqb, lit≤}
+use lib.ListN.{length, getD, take, drop, replicate, length-append, length-drop, length-replicate}
+use lib.Seq.{take-at, drop-at, drop-drop, take-take, getD-take, getD-drop}
+use borrow.Author.Tests.{eqb-true}
+use Rattle.texts.specs.Bytes.{_!_}
+use Rattle.texts.specs.Text.{controlA, controlB, textOf}
+use Rattle.texts.specs.Kinds.{isKind, isPartNumber, partOf, kindOf, dataBlockLength, blockLength, textLength, dataTexts, partLength}
+use Rattle.texts.specs.StartBlock.{noEchoOf, radarsOf}
+use Rattle.texts.specs.DataBlock.{payloadOf, isDataBlock}
+use Rattle.texts.specs.Part.{Part, textsOf, partBytes, isTextOf, inOrder, startPart, dataTextsAfter, isPart, UndamagedPart, gridLength, payloadsOf, zeros, gridOf, cutBlocks, cutPart}
+use Rattle.text_laws.proofs.Rules.{by-test, and-split}
+use Rattle.text_laws.proofs.Framing.{text-length}
+use Rattle.text_laws.proofs.Blocks.{StartRules, start-rules, DataRules, data-rules, EndRules, end-rules, PartRules, part-rules}
+use Rattle.text_laws.proofs.KindTable.{kind-part, text-back, data-is-kind, start-is-kind, data-block-length}
+
+-- blocks of one length
+pub data Sized (n : ℕ) : List (List ℕ) → Type 0 where
+  none : Sized n []
+  one : {block : List ℕ} {blocks : List (List ℕ)} → length block ≡ n → Sized n blocks → Sized n (block ∷ blocks)
+
+pub order-split : (q p k : ℕ) (block : List ℕ) (blocks : List (List ℕ)) → inOrder q p k (block ∷ blocks) ≡ true
+    → (isDataBlock block ≡ true) × (block ! 1 ≡ q) × (block ! 2 ≡ kindOf p k) × (inOrder q p (suc k) blocks ≡ true)
+unfolding inOrder
+order-split q p k block blocks h =
+    let (a, rest) = and-split (isDataBlock block && isTextOf q p k block) (inOrder q p (suc k) blocks) h in
+    let (b, c) = and-split (isDataBlock block) (isTextOf q p k block) a in
+    let (d, e) = and-split (eqb (block ! 1) q) (eqb (block ! 2) (kindOf p k)) c in
+    (b, eqb-true _ _ d, eqb-true _ _ e, rest)
+
+-- the data blocks of a part are of that part's length
+pub data-sized : (q p k : ℕ) (blocks : List (List ℕ)) → inOrder q p k blocks ≡ true → Sized (dataBlockLength p) blocks
+data-sized q p k [] h = none
+data-sized q p k (block ∷ blocks) h =
+    let (b, _, e, rest) = order-split q p k block blocks h in
+    let r = data-rules block b in
+    let known = subst (λ c. isKind c ≡ true) e (data-is-kind (block ! 2) (r .kind)) in
+    let part : partOf (block ! 2) ≡ p = ap partOf e ∙ text-back p k known .0 in
+    one (r .long ∙ data-block-length (block ! 2) (r .kind) ∙ ap dataBlockLength part) (data-sized q p (suc k) blocks rest)
+
+pub texts-length : {n : ℕ} {blocks : List (List ℕ)} → Sized n blocks → length (textsOf blocks) ≡ length blocks * (n + 8)
+unfolding textsOf
+texts-length {n} none = sym (zero-mul (n + 8))
+texts-length {n} (one {block} {blocks} l s) =
+    omega (arith, length-append (textOf block) (textsOf blocks), text-length block, texts-length s, suc-mul (length blocks) (n + 8))
+
+-- ---- cutting
+
+-- the block of the first text, and what follows that text
+first-block : (block rest : List ℕ) (n : ℕ) → length block ≡ n → take n (drop 5 (textOf block ++ rest)) ≡ block
+unfolding textOf
+first-block block rest n l = ap (λ t. take n t) (append-assoc block (controlB block) rest) ∙ take-at block (controlB block ++ rest) n l
+
+after-text : (block rest : List ℕ) (n : ℕ) → length block + 8 ≡ n → drop n (textOf block ++ rest) ≡ rest
+after-text block rest n l = drop-at (textOf block) rest n (text-length block ∙ l)
+
+cut-blocks : {n : ℕ} {blocks : List (List ℕ)} (rest : List ℕ) → Sized n blocks → cutBlocks (length blocks) n (textsOf blocks ++ rest) ≡ blocks
+unfolding cutBlocks textsOf
+cut-blocks rest none = refl
+cut-blocks {n} rest (one {block} {blocks} l s) =
+    ap (λ t. take n (drop 5 t) ∷ cutBlocks (length blocks) n (drop (n + 8) t)) (append-assoc (textOf block) (textsOf blocks) rest)
+    ∙ ap₂ (λ b t. b ∷ cutBlocks (length blocks) n t) (first-block block (textsOf blocks ++ rest) n l) (after-text block (textsOf blocks ++ rest) (n + 8) (ap (λ x. x + 8) l))
+    ∙ ap (λ bs. block ∷ bs) (cut-blocks rest s)
+
+module _ (p : Part) (h : isPart p ≡ true) where
+  rules : PartRules p
+  rules = part-rules p h
+
+  start-long : length (p .start) ≡ 32
+  unfolding rules
+  start-long = start-rules (p .start) (rules .start) .long
+
+  end-long : length (p .end) ≡ 32
+  unfolding rules
+  end-long = end-rules (radarsOf (p .start)) (p .end) (rules .end) .long
+
+  datas-sized : Sized (dataBlockLength (startPart (p .start))) (p .datas)
+  unfolding rules
+  datas-sized = data-sized (p .start ! 1) (startPart (p .start)) 1 (p .datas) (rules .order)
+
+  -- a part's length
+  pub part-length : length (partBytes p) ≡ partLength (startPart (p .start)) (noEchoOf (p .start ! 4))
+  unfolding partBytes partLength rules
+  part-length =
+      let known = kind-part (p .start ! 2) (start-is-kind (p .start ! 2) (start-rules (p .start) (rules .start) .kind)) in
+      let datas : length (textsOf (p .datas)) ≡ dataTextsAfter (p .start) * textLength (dataBlockLength (startPart (p .start))) =
+      texts-length datas-sized ∙ ap (λ n. n * textLength (dataBlockLength (startPart (p .start)))) (rules .count) in
+      rw known (simp length-append (omega (arith, datas, text-length (p .start), text-length (p .end), start-long, end-long)))
+
+  -- a part is cut into its blocks
+  pub cut-part : cutPart (partBytes p) ≡ p
+  unfolding cutPart partBytes rules
+  cut-part =
+      ap cut start ∙ (λ i. record { start = p .start; datas = datas i; end = end i })
+    where
+      count : ℕ
+      count = dataTextsAfter (p .start)
+
+      size : ℕ
+      size = dataBlockLength (startPart (p .start))
+
+      bytes : List ℕ
+      bytes = textOf (p .start) ++ (textsOf (p .datas) ++ textOf (p .end))
+
+      cut : List ℕ → Part
+      cut s =
+          record {
+            start = s;
+            datas = cutBlocks (dataTextsAfter s) (dataBlockLength (startPart s)) (drop 40 bytes);
+            end = take 32 (drop (45 + dataTextsAfter s * (dataBlockLength (startPart s) + 8)) bytes);
+          }
+
+      start : take 32 (drop 5 bytes) ≡ p .start
+      start = first-block (p .start) (textsOf (p .datas) ++ textOf (p .end)) 32 start-long
+
+      after : drop 40 bytes ≡ textsOf (p .datas) ++ textOf (p .end)
+      after = after-text (p .start) (textsOf (p .datas) ++ textOf (p .end)) 40 (omega (arith, start-long))
+
+      datas : cutBlocks count size (drop 40 bytes) ≡ p .datas
+      datas = ap₂ (λ n t. cutBlocks n size t) (sym (rules .count)) after ∙ cut-blocks (textOf (p .end)) datas-sized
+
+      end : take 32 (drop (45 + count * (size + 8)) bytes) ≡ p .end
+      end =
+          let texts : length (textsOf (p .datas)) ≡ count * (size + 8) = texts-length datas-sized ∙ ap (λ n. n * (size + 8)) (rules .count) in
+          let place : 45 + count * (size + 8) ≡ 40 + count * (size + 8) + 5 = omega arith in
+          ap (λ n. take 32 (drop n bytes)) place
+          ∙ ap (λ t. take 32 t) (sym (drop-drop 5 (40 + count * (size + 8)) bytes) ∙ ap (λ t. drop 5 t) (sym (drop-drop (count * (size + 8)) 40 bytes) ∙ ap (λ t. drop (count * (size + 8)) t) after ∙ drop-at (textsOf (p .datas)) (textOf (p .end)) (count * (size + 8)) texts))
+          ∙ ap (λ t. take 32 (drop 5 t)) (sym (append-nil (textOf (p .end))))
+          ∙ first-block (p .end) [] 32 end-long
+
+-- ---- places
+
+-- the texts of a part, in order: they follow each other with nothing between
+pub partTexts : Part → List (List ℕ)
+partTexts p = textOf (p .start) ∷ (map textOf (p .datas) ++ (textOf (p .end) ∷ []))
+
+pub joined : List (List ℕ) → List ℕ
+joined [] = []
+joined (text ∷ texts) = text ++ joined texts
+
+pub part-is-texts : (p : Part) → partBytes p ≡ joined (partTexts p)
+unfolding partBytes partTexts joined textsOf
+part-is-texts p = ap (λ t. textOf (p .start) ++ t) (go (p .datas))
+  where
+    go : (blocks : List (List ℕ)) → textsOf blocks ++ textOf (p .end) ≡ joined (map textOf blocks ++ (textOf (p .end) ∷ []))
+    go [] = sym (append-nil (textOf (p .end)))
+    go (block ∷ blocks) = append-assoc (textOf block) (textsOf blocks) (textOf (p .end)) ∙ ap (λ t. textOf block ++ t) (go blocks)
+
+-- the lengths of the texts that follow from a start block, in order
+pub textLengths : List ℕ → List ℕ
+textLengths start = 40 ∷ (replicate (dataTextsAfter start) (textLength (dataBlockLength (startPart start))) ++ (40 ∷ []))
+
+pub text-lengths : (p : Part) → isPart p ≡ true → map length (partTexts p) ≡ textLengths (p .start)
+unfolding partTexts textLengths rules
+text-lengths p h =
+    ap₂ (λ n ns. n ∷ ns) (text-length (p .start) ∙ ap (λ n. n + 8) (start-long p h))
+    (go (datas-sized p h) ∙ ap₂ (λ n e. replicate n (textLength (dataBlockLength (startPart (p .start)))) ++ (e ∷ [])) (rules p h .count) (text-length (p .end) ∙ ap (λ n. n + 8) (end-long p h)))
+  where
+    go : {n : ℕ} {blocks : List (List ℕ)} → Sized n blocks
+        → map length (map textOf blocks ++ (textOf (p .end) ∷ [])) ≡ replicate (length blocks) (textLength n) ++ (length (textOf (p .end)) ∷ [])
+    go none = refl
+    go (one {block} {blocks} l s) = ap₂ (λ n ns. n ∷ ns) (text-length block ∙ ap (λ n. n + 8) l) (go s)
+
+-- ---- of undamaged parts, by their bytes alone
+
+-- the start block stands behind the five control bytes
+pub start-at : (bytes : List ℕ) (u : UndamagedPart bytes) → u .part .start ≡ take 32 (drop 5 bytes)
+unfolding partBytes
+start-at bytes u =
+    sym (ap (λ t. take 32 (drop 5 t)) (u .framed)
+    ∙ first-block (u .part .start) (textsOf (u .part .datas) ++ textOf (u .part .end)) 32 (start-long (u .part) (u .rules)))
+
+-- A part's length is settled by its start text: by its kind, byte 7 of the part, and its status 1, byte 9
+pub part-length-settled : (bytes : List ℕ) → UndamagedPart bytes → length bytes ≡ partLength (partOf (bytes ! 7)) (noEchoOf (bytes ! 9))
+part-length-settled bytes u =
+    ap length (u .framed) ∙ part-length (u .part) (u .rules)
+    ∙ ap₂ (λ k s. partLength (partOf k) (noEchoOf s)) (at 2 (omega arith)) (at 4 (omega arith))
+  where
+    at : (i : ℕ) → i < 32 → u .part .start ! i ≡ bytes ! (5 + i)
+    at i l = ap (λ t. t ! i) (start-at bytes u) ∙ getD-take 32 (drop 5 bytes) i 0 l ∙ getD-drop 5 bytes i 0
+
+-- Two undamaged parts that begin with the same start text have their texts at the same places:
+-- text by text, they have the same lengths
+pub same-places : (xs ys : List ℕ) (u : UndamagedPart xs) (v : UndamagedPart ys) → take 40 xs ≡ take 40 ys
+    → map length (partTexts (u .part)) ≡ map length (partTexts (v .part))
+same-places xs ys u v e =
+    text-lengths (u .part) (u .rules) ∙ ap textLengths (start-at xs u ∙ front xs ∙ ap (λ t. take 32 (drop 5 t)) e ∙ sym (front ys) ∙ sym (start-at ys v))
+    ∙ sym (text-lengths (v .part) (v .rules))
+  where
+    front : (bytes : List ℕ) → take 32 (drop 5 bytes) ≡ take 32 (drop 5 (take 40 bytes))
+    front [] = refl
+    front (a ∷ []) = refl
+    front (a ∷ b ∷ []) = refl
+    front (a ∷ b ∷ c ∷ []) = refl
+    front (a ∷ b ∷ c ∷ d ∷ []) = refl
+    front (a ∷ b ∷ c ∷ d ∷ e ∷ bytes) = sym (take-take 32 35 bytes (lit≤ tt))
+
+-- An undamaged part has one reading: its blocks, and so its header, modes and grid, are settled by its bytes
+pub one-reading : (bytes : List ℕ) (u v : UndamagedPart bytes) → u .part ≡ v .part
+one-reading bytes u v =
+    sym (cut-part (u .part) (u .rules)) ∙ ap cutPart (sym (u .framed) ∙ v .framed) ∙ cut-part (v .part) (v .rules)
+
+-- ---- grids
+
+pub payloads-length : {n : ℕ} {blocks : List (List ℕ)} → Sized n blocks → length (payloadsOf blocks) ≡ length blocks * (n - 3)
+unfolding payloadsOf
+payloads-length {n} none = sym (zero-mul (n - 3))
+payloads-length {n} (one {block} {blocks} l s) =
+    omega (arith, length-append (payloadOf block) (payloadsOf blocks), length-drop 3 block, payloads-length s, suc-mul (length blocks) (n - 3))
+
+-- no part has more payload than the grid has room for
+pub payload-fits : (p : ℕ) (noEcho : Bool) → dataTexts p noEcho * (dataBlockLength p - 3) ≤ gridLength
+unfolding dataTexts dataBlockLength
+payload-fits p noEcho =
+    by-test (eqb p 3) (λ e. rw (e, eqb-true p 3 e) (lit≤ tt))
+    (λ e. by-test noEcho (λ n. rw (e, n) (omega (arith, zero-mul (dataBlockLength p - 3))))
+    (λ n. by-test (eqb p 1) (λ f. rw (e, n, f) (lit≤ tt))
+    (λ f. by-test (eqb p 2) (λ g. rw (e, n, f, g) (lit≤ tt)) (λ g. rw (e, n, f, g) (lit≤ tt)))))
+
+-- the grid of a part has 20,000 bytes
+pub grid-length : (p : Part) → isPart p ≡ true → length (gridOf p) ≡ gridLength
+unfolding gridOf rules zeros
+grid-length p h =
+    let few : length (payloadsOf (p .datas)) ≤ gridLength =
+    rw (payloads-length (datas-sized p h), rules p h .count) (payload-fits (startPart (p .start)) (noEchoOf (p .start ! 4))) in
+    length-append (payloadsOf (p .datas)) (zeros (gridLength - length (payloadsOf (p .datas))))
+    ∙ omega (arith, few, length-replicate {A = ℕ} (gridLength - length (payloadsOf (p .datas))) 0)

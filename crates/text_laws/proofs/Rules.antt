@@ -1,0 +1,76 @@
+-- Tests turned into facts, and facts into tests. Assumes nothing.
+use mathlib.Core.Path.{_≡_, refl, sym, ap, _∙_, subst}
+use mathlib.Core.Logic.{_⊎_, inl, inr, _≢_}
+use mathlib.Core.Bool.{Bool, true, false, cond, not, _&&_, _||_, true≢false}
+use mathlib.Core.List.{List, [], _∷_, _++_}
+use Prim.Native.Nat.{ℕ, zero, suc, _+_, _≤_, _<_}
+use native.Mathlib.Omega.{arith}
+use lib.Dec.{T, eqb}
+use lib.ListN.{length, getD, take, drop}
+use borrow.Author.Tests.{eqb-true, eqb-false, eq-eqb, ne-eqb}
+use Rattle.texts.specs.Bytes.{_!_, isIn, every, allOf, same}
+use Rattle.texts.proofs.Finite.{all, at-each}
+
+-- a test has two outcomes
+pub by-test : {P : Type 0} (t : Bool) → (t ≡ true → P) → (t ≡ false → P) → P
+by-test true f g = f refl
+by-test false f g = g refl
+
+pub never : {P : Type 0} {t : Bool} → t ≡ false → t ≡ true → P
+never f h = absurd (true≢false (sym h ∙ f))
+
+pub and-split : (a b : Bool) → a && b ≡ true → (a ≡ true) × (b ≡ true)
+and-split true b h = (refl, h)
+and-split false b h = never refl h
+
+pub and-join : {a b : Bool} → a ≡ true → b ≡ true → a && b ≡ true
+and-join {a} {b} p q = rw (p, q)
+
+pub or-split : (a b : Bool) → a || b ≡ true → (a ≡ true) ⊎ (b ≡ true)
+or-split true b h = inl refl
+or-split false b h = inr h
+
+-- all rules are kept, so each one is
+pub rule-at : (rules : List Bool) → allOf rules ≡ true → (i : ℕ) → getD rules i true ≡ true
+unfolding allOf
+rule-at [] h i = refl
+rule-at (rule ∷ rules) h zero = and-split rule (allOf rules) h .0
+rule-at (rule ∷ rules) h (suc i) = rule-at rules (and-split rule (allOf rules) h .1) i
+
+-- a test that each element passes
+pub every-at : (test : ℕ → Bool) (xs : List ℕ) → every test xs ≡ true → (i : ℕ) → i < length xs → test (xs ! i) ≡ true
+unfolding every
+every-at test [] h i l = absurd (omega arith)
+every-at test (x ∷ xs) h zero l = and-split (test x) (every test xs) h .0
+every-at test (x ∷ xs) h (suc i) l = every-at test xs (and-split (test x) (every test xs) h .1) i (omega arith)
+
+pub every-in : (test : ℕ → Bool) (xs : List ℕ) (b : ℕ) → every test xs ≡ true → isIn b xs ≡ true → test b ≡ true
+unfolding every isIn
+every-in test [] b h m = never refl m
+every-in test (x ∷ xs) b h m = pick (and-split (test x) (every test xs) h) (or-split (eqb b x) (isIn b xs) m) (every-in test xs b)
+  where
+    pick : (test x ≡ true) × (every test xs ≡ true) → (eqb b x ≡ true) ⊎ (isIn b xs ≡ true) → (every test xs ≡ true → isIn b xs ≡ true → test b ≡ true) → test b ≡ true
+    pick (p, q) (inl e) ih = ap test (eqb-true b x e) ∙ p
+    pick (p, q) (inr m) ih = ih q m
+
+pub same-eq : (xs ys : List ℕ) → same xs ys ≡ true → xs ≡ ys
+unfolding same
+same-eq [] [] h = refl
+same-eq [] (y ∷ ys) h = never refl h
+same-eq (x ∷ xs) [] h = never refl h
+same-eq (x ∷ xs) (y ∷ ys) h =
+    let (p, q) = and-split (eqb x y) (same xs ys) h in
+    rw (eqb-true x y p, same-eq xs ys q)
+
+pub same-refl : (xs : List ℕ) → same xs xs ≡ true
+unfolding same
+same-refl [] = refl
+same-refl (x ∷ xs) = and-join (eq-eqb x x refl) (same-refl xs)
+
+-- a test that is computed at each number below n
+told : (t : Bool) → T t → t ≡ true
+told true h = refl
+told false h = absurd h
+
+pub tabled : (test : ℕ → Bool) (n : ℕ) → T (all n test) → (i : ℕ) → i < n → test i ≡ true
+tabled test n h i l = told (test i) (at-each n test h i l)

@@ -1,0 +1,25 @@
+-- Nothing has to hold from turn to turn. The measure is what is left of the 256 bytes. Assumes nothing.
+use Prim.Native.Nat.{_-_}
+use borrow.Author.Needs.{needs}
+use Rattle.text_vectors.proofs.bytes.lines.Statement.{statement}
+use Rattle.text_vectors.proofs.bytes.lines.Tie as tie
+
+abbrev Inv-loop : tie.InvT-loop
+Inv-loop b₀ b = Unit {0}
+
+abbrev μ-loop : tie.MeasureT-loop
+μ-loop b₀ b = 256 - b
+
+pub lines-spec : {M : Type 1} → statement M
+lines-spec =
+    tie.close (
+    tie.spec
+    Inv-loop
+    μ-loop
+    (λ c. search needs)
+    (λ c. search needs)
+    (λ c κs. search needs)
+    (λ c. search needs)
+    (λ c. search needs)
+    (λ c. search needs)
+    (λ c. search needs))

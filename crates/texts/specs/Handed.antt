@@ -1,0 +1,29 @@
+-- The rule of a header and modes that a writer is handed (01, row 32). Assumes nothing.
+use Prim.Native.Nat.{ℕ}
+use mathlib.Core.Bool.{Bool, true, false, cond, _&&_}
+use mathlib.Core.List.{List, [], _∷_}
+use lib.Dec.{eqb, leb}
+use Rattle.texts.specs.Bytes.{_!_, every, allOf}
+use Rattle.texts.specs.Pictures.{isPictureCode}
+use Rattle.texts.specs.StartBlock.{isTime, isRadarList}
+use Rattle.texts.specs.EndBlock.{radarPlaces}
+use Rattle.texts.specs.declared.header.Heading.{Heading}
+use Rattle.texts.specs.declared.header.Header.{Header}
+
+-- 01: the header without its status bytes
+abbrev pub headingOf : Header → Heading
+headingOf h = record { time = h .time; radars = h .radars; clock = h .clock; picture = h .picture }
+
+-- the mode of a radar is 1 to 3; 0 where there is no radar
+unfoldable pub isModeFor : ℕ → ℕ → Bool
+isModeFor radar m = cond (eqb radar 0) (eqb m 0) (leb 1 m && leb m 3)
+
+unfoldable pub areModesFor : List ℕ → List ℕ → Bool
+areModesFor radars modes = every (λ i. isModeFor (radars ! i) (modes ! i)) radarPlaces
+
+unfoldable pub isHeading : Heading → Bool
+isHeading h =
+    allOf (isPictureCode (h .picture) ∷ leb (h .clock) 16383 ∷ isTime (h .time) ∷ isRadarList (h .radars) ∷ [])
+
+unfoldable pub isHanded : Heading → List ℕ → Bool
+isHanded h modes = isHeading h && areModesFor (h .radars) modes

@@ -1,0 +1,143 @@
+// Kinds: block byte 2, and the lengths that it settles.
+// A part is 1 (intensity), 2 (echo top) or 3 (quality). A text's number within its part is 0 for
+// the start text, k for data text k and 11 for the end text.
+ghost use mathlib.Core.Path.{_≡_};
+ghost use Rattle.texts.specs.Kinds.{isKind, partOf, textNumber, kindOf, blockLength, dataBlockLength, dataTexts, partLength, payloadLength};
+
+// Whether a byte is one of the 18 kinds. Notice 49, 4(1)(1-1)(d)(イ) and (ウ)
+pub fn is_kind(b: u8) -> bool
+    ensures { λ r. ⌜ r ≡ isKind b ⌝ }
+{
+    let part = b / 16;
+    let low = b % 16;
+    let marks = (low == 0) | (low == 1) | (low == 15);
+    ((part == 1) & (marks | (low <= 10))) | (((part == 2) | (part == 3)) & marks)
+}
+
+// The part of a kind; 0 where the byte is no kind. Notice 49, 4(1)(1-1)(d)(イ) and (ウ)
+pub fn part_of_kind(b: u8) -> u8
+    ensures { λ r. ⌜ r ≡ partOf b ⌝ }
+{
+    if is_kind(b) { b / 16 } else { 0 }
+}
+
+// The text number of a kind; 0 where the byte is no kind. Notice 49, 4(1)(1-1)(d)(イ) and (ウ)
+pub fn text_of_kind(b: u8) -> u8
+    ensures { λ r. ⌜ r ≡ textNumber b ⌝ }
+{
+    let low = b % 16;
+    if is_kind(b) {
+        if low == 15 { 11 } else { low }
+    } else {
+        0
+    }
+}
+
+// The kind of text `text` of part `part`; 0 where there is none. Notice 49, 4(1)(1-1)(d)(イ) and (ウ)
+pub fn kind_of(part: u8, text: u8) -> u8
+    ensures { λ r. ⌜ r ≡ kindOf part text ⌝ }
+{
+    if part == 0 {
+        return 0;
+    }
+    if 3 < part {
+        return 0;
+    }
+    if text == 11 {
+        return part * 16 + 15;
+    }
+    if text <= 1 {
+        return part * 16 + text;
+    }
+    if part != 1 {
+        return 0;
+    }
+    if text <= 10 {
+        return 16 + text;
+    }
+    0
+}
+
+// The length of a data block; 0 where there is no such part.
+// Notice 49, 4(1)(1-1)(b)(イ), 4(1)(1-2)(b)(イ), 4(2)(b)(イ)
+pub fn data_block_length(part: u8) -> u16
+    ensures { λ r. ⌜ r ≡ dataBlockLength part ⌝ }
+{
+    if part == 1 {
+        return 2003;
+    }
+    if part == 2 {
+        return 403;
+    }
+    if part == 3 {
+        return 103;
+    }
+    0
+}
+
+// The length of a kind's block; 0 where the byte is no kind. Notice 49, 4(1)(1-1)(b)
+pub fn block_length(b: u8) -> u16
+    ensures { λ r. ⌜ r ≡ blockLength b ⌝ }
+{
+    let part = part_of_kind(b);
+    if part == 0 {
+        return 0;
+    }
+    let low = b % 16;
+    if low == 0 {
+        return 32;
+    }
+    if low == 15 {
+        return 32;
+    }
+    data_block_length(part)
+}
+
+// How many data texts a part has; with NO ECHO only quality has any. None where there is no such part.
+// Notice 49, 4(1)(1-1)(a), 4(1)(1-2)(a), 4(2)(a)
+pub fn data_texts(part: u8, noecho: bool) -> u8
+    ensures { λ r. ⌜ r ≡ dataTexts part noecho ⌝ }
+{
+    if noecho & (part != 3) {
+        return 0;
+    }
+    if part == 1 {
+        return 10;
+    }
+    if (part == 2) | (part == 3) {
+        return 1;
+    }
+    0
+}
+
+// The length of a whole part; 0 where there is no such part
+pub fn part_length(part: u8, noecho: bool) -> usize
+    ensures { λ r. ⌜ r ≡ partLength part noecho ⌝ }
+{
+    if part == 3 {
+        return 191;
+    }
+    if (part == 0) | (3 < part) {
+        return 0;
+    }
+    if noecho {
+        return 80;
+    }
+    if part == 1 { 20190 } else { 491 }
+}
+
+// How many payload bytes a part carries; 0 where there is no such part
+pub fn payload_length(part: u8) -> usize
+    ensures { λ r. ⌜ r ≡ payloadLength part ⌝ }
+{
+    if part == 1 {
+        return 20000;
+    }
+    if part == 2 {
+        return 400;
+    }
+    if part == 3 {
+        return 100;
+    }
+    0
+}

@@ -1,0 +1,20 @@
+// Payload bytes.
+ghost use mathlib.Core.Path.{_≡_};
+ghost use Rattle.texts.specs.DataBlock.{isPayloadByte};
+
+// Whether a byte may stand in the payload of a part; no byte may where there is no such part.
+// Notice 49, 4(1)(1-1)(d)(ウ), 4(1)(1-2)(d)(ウ), 4(2)(d)(ウ)
+pub fn is_payload_byte(part: u8, b: u8) -> bool
+    ensures { λ r. ⌜ r ≡ isPayloadByte part b ⌝ }
+{
+    if part == 1 {
+        return (b / 16 <= 14) & (b % 16 <= 14);
+    }
+    if part == 2 {
+        return b <= 8;
+    }
+    if part == 3 {
+        return (b <= 0x3F) | (b == 0x40);
+    }
+    false
+}
