@@ -6,10 +6,10 @@ use crate::print::list;
 use crate::print::number32;
 use crate::print::space;
 use crate::print::word;
-use texts::calendar::days_in;
-use texts::calendar::is_leap_year;
-use texts::calendar::is_moment;
-use texts::calendar::is_time;
+use headers::calendar::days_in;
+use headers::calendar::is_leap_year;
+use headers::calendar::is_moment;
+use headers::calendar::is_time;
 
 const YEARS: [u32; 18] = [
     0,

@@ -5,11 +5,11 @@ use crate::print::end_line;
 use crate::print::list;
 use crate::print::number16;
 use crate::print::word;
+use headers::handed::heading_of;
+use headers::handed::is_handed;
+use headers::handed::is_heading;
 use texts::header::Header;
 use texts::header::Heading;
-use texts::header::heading_of;
-use texts::header::is_handed;
-use texts::header::is_heading;
 
 // What the start block and the end block of 01 give
 const TIME: [u8; 12] = [1, 9, 9, 9, 0, 6, 0, 7, 1, 2, 1, 0];

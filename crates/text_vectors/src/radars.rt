@@ -6,11 +6,11 @@ use crate::print::end_line;
 use crate::print::list;
 use crate::print::space;
 use crate::print::word;
-use texts::header::are_modes_for;
-use texts::header::is_mode_byte;
-use texts::header::is_mode_for;
-use texts::header::is_radar_list;
-use texts::header::radar_follows;
+use headers::radars::are_modes_for;
+use headers::radars::is_mode_byte;
+use headers::radars::is_mode_for;
+use headers::radars::is_radar_list;
+use headers::radars::radar_follows;
 
 // What may stand before the last place of a list: no radar, and the 21 codes
 const BEFORE: [u8; 22] = [

@@ -50,6 +50,7 @@ clockBytes clock = clock / 128 ∷ clock % 128 ∷ []
 unfoldable pub isLeapYear : ℕ → Bool
 isLeapYear y = eqb (y % 4) 0 && not (eqb (y % 100) 0) || eqb (y % 400) 0
 
+-- the days of a month; 31 where the number is no month
 unfoldable pub daysIn : ℕ → ℕ → ℕ
 daysIn y m = cond (eqb m 2) (cond (isLeapYear y) 29 28) (cond (isIn m (4 ∷ 6 ∷ 9 ∷ 11 ∷ [])) 30 31)
 

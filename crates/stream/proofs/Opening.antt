@@ -1,0 +1,56 @@
+-- When an opening ends, and which byte of it is due. Assumes nothing.
+use mathlib.Core.Path.{_≡_, refl, sym, ap, _∙_}
+use mathlib.Core.Logic.{_≢_}
+use mathlib.Core.Bool.{Bool, true, false, cond, _&&_, and-false}
+use mathlib.Core.List.{List, [], _∷_, _++_, reverse, tail-eq-of-cons-eq}
+use Prim.Native.Nat.{ℕ, suc}
+use lib.Dec.{eqb}
+use lib.ListN.{take}
+use borrow.Author.Tests.{ne-eqb}
+use Rattle.texts.specs.Bytes.{_!_, same}
+use Rattle.texts.specs.Text.{LPAD, SYN, DLE, STX, FD, opening}
+use Rattle.text_laws.proofs.Rules.{by-test, same-eq}
+use Rattle.stream.specs.Seen.{push, openingBack, endsOpening, dueByte}
+
+-- a choice by a test: each outcome by itself
+pub by-if : {A : Type 0} (P : A → Type 0) (c : Bool) {x y : A} → (c ≡ true → P x) → (c ≡ false → P y) → P (cond c x y)
+by-if P true f g = f refl
+by-if P false f g = g refl
+
+-- an opening ends with `FD`, and the byte before it is STX
+pub only-FD : (w : List ℕ) (b : ℕ) → b ≢ FD → endsOpening w b ≡ false
+unfolding endsOpening same
+only-FD w b n = rw (ne-eqb b FD n)
+
+pub only-STX : (y : ℕ) (w : List ℕ) (b : ℕ) → y ≢ STX → endsOpening (y ∷ w) b ≡ false
+unfolding endsOpening same
+only-STX y w b n = rw (ne-eqb y STX n) (and-false (eqb b FD))
+
+-- the six bytes
+pub opening-seen : (w : List ℕ) (b : ℕ) → endsOpening w b ≡ true → b ∷ w ≡ openingBack
+unfolding endsOpening
+opening-seen w b h = same-eq (b ∷ w) openingBack h
+
+-- the bytes seen after more of them
+abbrev pub pushes : List ℕ → List ℕ → List ℕ
+pushes w [] = w
+pushes w (x ∷ xs) = pushes (push w x) xs
+
+-- after the five control bytes, after an opening, and after the block's first three bytes
+abbrev pub seenControl : List ℕ
+seenControl = STX ∷ DLE ∷ SYN ∷ SYN ∷ LPAD ∷ []
+
+abbrev pub seenOpening : List ℕ
+seenOpening = FD ∷ STX ∷ DLE ∷ SYN ∷ SYN ∷ []
+
+abbrev pub seenKind : ℕ → ℕ → List ℕ
+seenKind q k = k ∷ q ∷ FD ∷ STX ∷ DLE ∷ []
+
+pub control-opens : endsOpening seenControl FD ≡ true
+unfolding endsOpening same
+control-opens = refl
+
+-- a byte seen that is not the opening's at its place keeps it from ending
+pub differs : (w : List ℕ) (b i : ℕ) → w ! i ≢ seenControl ! i → endsOpening w b ≡ false
+differs w b i n =
+    by-test (endsOpening w b) (λ e. absurd (n (ap (λ t. t ! i) (tail-eq-of-cons-eq (opening-seen w b e))))) (λ e. e)

@@ -1,0 +1,144 @@
+-- A start text leads every machine, from whatever state, to the same state: the way back. Assumes nothing.
+use mathlib.Core.Path.{_≡_, refl, sym, ap, ap₂, _∙_, subst}
+use mathlib.Core.Logic.{_≢_}
+use mathlib.Core.Bool.{Bool, true, false, cond, not, true≢false}
+use mathlib.Core.List.{List, [], _∷_, _++_, append-assoc}
+use Prim.Native.Nat.{ℕ, zero, suc, _+_, _≤_, _<_}
+use native.Mathlib.Nat.{add-zero}
+use native.Mathlib.Omega.{arith}
+use lib.Dec.{eqb}
+use lib.ListN.{length, take}
+use borrow.Author.Tests.{eq-eqb, ne-eqb, eqb-true, eqb-false}
+use Rattle.texts.specs.Text.{LPAD, SYN, DLE, STX, FD, EOR, TPAD, controlA, xorAll, checkByte}
+use Rattle.text_laws.proofs.Rules.{by-test, never}
+use Rattle.stream.specs.Seen.{push, endsOpening}
+use Rattle.stream.specs.Receiver.{_⊕_}
+use Rattle.stream.proofs.Machine.{Rules, Machine, Out, mk, say, lost, new, opens, atPicture, atKind, inBlock, atEor, atCheck, atLast, placed, move, run, Eats, done, bite, block, most, text}
+use Rattle.stream.proofs.Opening.{by-if, only-FD, only-STX, control-opens, pushes, seenControl, seenOpening, seenKind}
+use Rattle.stream.proofs.Steps.{Laws, xor-cons, xor-nil, check-is, run-append, move-seen, move-block, move-eor, move-check, move-last}
+
+-- the check byte of a block, as it runs on from its first three bytes
+abbrev pub checkAt3 : ℕ → ℕ → ℕ
+checkAt3 q k = (FD ⊕ q) ⊕ k
+
+pub running : (q k : ℕ) (xs : List ℕ) → checkAt3 q k ⊕ xorAll xs ≡ xorAll (FD ∷ q ∷ k ∷ xs)
+unfolding _⊕_ xorAll
+running q k xs = xor-cons (FD ⊕ q) k xs ∙ xor-cons FD q (k ∷ xs)
+
+pub checked : (q k : ℕ) (xs : List ℕ) → (checkAt3 q k ⊕ xorAll xs) ⊕ EOR ≡ checkByte (FD ∷ q ∷ k ∷ xs)
+checked q k xs = ap (λ x. x ⊕ EOR) (running q k xs) ∙ sym (check-is (FD ∷ q ∷ k ∷ xs))
+
+module _ (R : Rules) (L : Laws R) where
+  open Rules R using (Held, blank, isPicture, isKind, isStart, isEnd, long, dueKind, partOf, pictureOf, begin, takes, enter, settle, firstDue, nextDue, closes)
+
+  pub picture-not-FD : (q : ℕ) → isPicture q ≡ true → q ≢ FD
+  picture-not-FD q h e = never (L .fd-picture) (sym (ap isPicture e) ∙ h)
+
+  pub kind-not-FD : (k : ℕ) → isKind k ≡ true → k ≢ FD
+  kind-not-FD k h e = never (L .fd-kind) (sym (ap isKind e) ∙ h)
+
+  -- a block byte that keeps its rule
+  pub take-byte : (w : List ℕ) (i k q p d x : ℕ) (c : Held) (b : ℕ) → endsOpening w b ≡ false → 3 ≤ i → i < long k → takes k c i b ≡ true
+      → move R (mk R w i k q p d x c) b ≡ say R 0 (mk R (push w b) (suc i) k q p d (x ⊕ b) (enter k c i b))
+  unfolding inBlock
+  take-byte w i k q p d x c b n a l h = move-block R w i k q p d x c b n a l ∙ rw h
+
+  -- the bytes of a block from byte i on
+  pub body-run : {k : ℕ} {c e : Held} {i : ℕ} {xs : List ℕ} (q p d x y : ℕ) (w : List ℕ) → Eats R k c i xs e → 3 ≤ i → i + length xs ≤ long k
+      → (takes k c i FD ≡ true → y ≢ STX)
+      → run R (mk R (y ∷ w) i k q p d x c) xs ≡ mk R (pushes (y ∷ w) xs) (i + length xs) k q p d (x ⊕ xorAll xs) e
+  unfolding run
+  body-run {k} {c} {i} q p d x y w done h l f = rw (add-zero i, xor-nil x)
+  body-run {k} {e} {i} q p d x y w (bite {c} {x = b} {xs} g r) h l f =
+      let shut : endsOpening (y ∷ w) b ≡ false =
+      by-test (eqb b FD) (λ t. only-STX y w b (f (subst (λ v. takes k c i v ≡ true) (eqb-true b FD t) g))) (λ t. only-FD (y ∷ w) b (eqb-false b FD t)) in
+      let far : suc i + length xs ≡ i + suc (length xs) = omega arith in
+      ap (λ o. run R (o .machine) xs) (take-byte (y ∷ w) i k q p d x c b shut h (omega arith) g)
+      ∙ body-run q p d (x ⊕ b) b (take 4 (y ∷ w)) r (omega arith) (omega arith) (λ t s. never (L .fd-after k i c (subst (λ v. takes k c i v ≡ true) s g)) (subst (λ v. takes k (enter k c i v) (suc i) FD ≡ true) s t))
+      ∙ ap₂ (λ n z. mk R (pushes (push (y ∷ w) b) xs) n k q p d z e) far (xor-cons x b xs)
+
+  -- EOR and check byte
+  pub take-eor : (w : List ℕ) (k q p d x : ℕ) (c : Held) → 3 ≤ long k
+      → move R (mk R w (long k) k q p d x c) EOR ≡ say R 0 (mk R (push w EOR) (suc (long k)) k q p d (x ⊕ EOR) c)
+  unfolding atEor
+  take-eor w k q p d x c h = move-eor R w (long k) k q p d x c EOR (only-FD w EOR (λ e. omega arith)) h refl
+
+  pub take-check : (w : List ℕ) (k q p d x : ℕ) (c : Held) → 3 ≤ long k
+      → move R (mk R (EOR ∷ w) (suc (long k)) k q p d x c) x ≡ say R 0 (mk R (push (EOR ∷ w) x) (suc (suc (long k))) k q p d x c)
+  unfolding atCheck
+  take-check w k q p d x c h =
+      move-check R (EOR ∷ w) (suc (long k)) k q p d x c x (only-STX EOR w x (λ e. omega arith)) h refl ∙ rw (eq-eqb x x refl)
+
+  -- the bytes seen before a text's last byte
+  abbrev pub seenCheck : ℕ → ℕ → List ℕ → List ℕ
+  seenCheck q k xs = push (push (pushes (seenKind q k) xs) EOR) (checkByte (FD ∷ q ∷ k ∷ xs))
+
+  -- from the kind to the last byte but one
+  pub block-run : {k : ℕ} {c e : Held} {xs : List ℕ} (q p d : ℕ) → isKind k ≡ true → 3 + length xs ≡ long k → Eats R k c 3 xs e
+      → run R (mk R (seenKind q k) 3 k q p d (checkAt3 q k) c) (xs ++ (EOR ∷ checkByte (FD ∷ q ∷ k ∷ xs) ∷ []))
+      ≡ mk R (seenCheck q k xs) (suc (suc (long k))) k q p d (checkByte (FD ∷ q ∷ k ∷ xs)) e
+  unfolding run
+  block-run {k} {c} {e} {xs} q p d hk l r =
+      let z = checkByte (FD ∷ q ∷ k ∷ xs) in
+      run-append R _ xs _
+      ∙ ap (λ m. run R m (EOR ∷ z ∷ [])) (body-run q p d (checkAt3 q k) k _ r (omega arith) (omega arith) (λ t. never (L .fd-first k c hk) t))
+      ∙ ap (λ n. run R (mk R (pushes (seenKind q k) xs) n k q p d (checkAt3 q k ⊕ xorAll xs) e) (EOR ∷ z ∷ [])) l
+      ∙ ap (λ o. run R (o .machine) (z ∷ [])) (take-eor (pushes (seenKind q k) xs) k q p d (checkAt3 q k ⊕ xorAll xs) e (L .long-3 k hk))
+      ∙ ap (λ x. run R (mk R (push (pushes (seenKind q k) xs) EOR) (suc (long k)) k q p d x e) (z ∷ [])) (checked q k xs)
+      ∙ ap (λ o. o .machine) (take-check (take 4 (pushes (seenKind q k) xs)) k q p d z e (L .long-3 k hk))
+
+  -- the opening, from any state
+  open-from : (m : Machine R) → m .seen ≡ seenControl → (p : ℕ) × (d : ℕ) × (c : Held) × (move R m FD .machine ≡ mk R seenOpening 1 0 0 p d FD c)
+  unfolding move opens
+  open-from m e =
+      rw (e, control-opens)
+      (by-if (λ (o : Out R). (p : ℕ) × (d : ℕ) × (c : Held) × (o .machine ≡ mk R seenOpening 1 0 0 p d FD c)) (eqb (m .place) 0)
+      (λ _. (m .part, m .due, m .held, refl)) (λ _. (0, 0, blank, refl)))
+
+  pub any-open : (m : Machine R) → (p : ℕ) × (d : ℕ) × (c : Held) × (run R m (controlA ++ (FD ∷ [])) ≡ mk R seenOpening 1 0 0 p d FD c)
+  unfolding run
+  any-open m = open-from (run R m controlA) (simp move-seen)
+
+  pub take-picture : (p d q : ℕ) (c : Held) → isPicture q ≡ true → move R (mk R seenOpening 1 0 0 p d FD c) q ≡ say R 0 (mk R (push seenOpening q) 2 0 q p d (FD ⊕ q) c)
+  unfolding move placed atPicture
+  take-picture p d q c h = rw (only-FD seenOpening q (picture-not-FD q h), h)
+
+  pub take-start : (p d q k : ℕ) (c : Held) → isStart k ≡ true
+      → (a : ℕ) × (b : Held) × (move R (mk R (push seenOpening q) 2 0 q p d (FD ⊕ q) c) k ≡ say R a (mk R (seenKind q k) 3 k q 0 0 (checkAt3 q k) (begin q b))) × (a ≢ 3)
+  unfolding move placed atKind
+  take-start p d q k c h =
+      let g : isKind k ≡ true = L .start-kind k h in
+      rw (only-FD (push seenOpening q) k (kind-not-FD k g), g, h)
+      (by-if (λ (o : Out R). (a : ℕ) × (b : Held) × (o ≡ say R a (mk R (seenKind q k) 3 k q 0 0 (checkAt3 q k) (begin q b))) × (a ≢ 3)) (eqb p 0)
+      (λ _. (0, c, refl, λ e. omega arith)) (λ _. (15, blank, refl, λ e. omega arith)))
+
+  pub take-last : (w : List ℕ) (k q p d x : ℕ) (c : Held) → 3 ≤ long k
+      → move R (mk R w (suc (suc (long k))) k q p d x c) TPAD ≡ atLast R (mk R w (suc (suc (long k))) k q p d x c) (push w TPAD) TPAD
+  take-last w k q p d x c h = move-last R w (suc (suc (long k))) k q p d x c TPAD (only-FD w TPAD (λ e. omega arith)) h refl
+
+  -- what a start text leaves, whatever stood before
+  abbrev pub afterStart : ℕ → ℕ → List ℕ → Held → Machine R
+  afterStart q k xs e = mk R (push (seenCheck q k xs) TPAD) 0 0 0 (partOf k) (firstDue k e) 0 (settle e)
+
+  pub start-run : {q k : ℕ} {xs : List ℕ} {e : Held} → isPicture q ≡ true → isStart k ≡ true → 3 + length xs ≡ long k → Eats R k (begin q blank) 3 xs e
+      → (m : Machine R) → move R (run R m (most R (block R q k xs))) TPAD ≡ say R 1 (afterStart q k xs e)
+  unfolding run most atLast
+  start-run {q} {k} {xs} {e} hq hk l r m =
+      let known = L .start-kind k hk in
+      let z = checkByte (FD ∷ q ∷ k ∷ xs) in
+      let o = any-open m in
+      let g = take-start (o .0) (o .1) q k (o .2) hk in
+      let b = L .begin-any k q blank (g .1) e xs hk r in
+      ap (λ t. move R t TPAD)
+      (run-append R m (controlA ++ (FD ∷ [])) (q ∷ k ∷ (xs ++ (EOR ∷ z ∷ [])))
+      ∙ ap (λ t. run R t (q ∷ k ∷ (xs ++ (EOR ∷ z ∷ [])))) (o .3)
+      ∙ ap (λ t. run R (t .machine) (k ∷ (xs ++ (EOR ∷ z ∷ [])))) (take-picture (o .0) (o .1) q (o .2) hq)
+      ∙ ap (λ t. run R (t .machine) (xs ++ (EOR ∷ z ∷ []))) (g .2)
+      ∙ block-run q 0 0 known l (b .1))
+      ∙ take-last (seenCheck q k xs) k q 0 0 z (b .0) (L .long-3 k known)
+      ∙ rw hk (ap₂ (λ x y. say R 1 (mk R (push (seenCheck q k xs) TPAD) 0 0 0 (partOf k) x 0 y)) (sym (b .3)) (sym (b .2)))
+
+  -- from a start text's last byte on, it makes no difference what came before it
+  pub way-back : {q k : ℕ} {xs : List ℕ} {e : Held} → isPicture q ≡ true → isStart k ≡ true → 3 + length xs ≡ long k → Eats R k (begin q blank) 3 xs e
+      → (m n : Machine R) → move R (run R m (most R (block R q k xs))) TPAD ≡ move R (run R n (most R (block R q k xs))) TPAD
+  way-back hq hk l r m n = start-run hq hk l r m ∙ sym (start-run hq hk l r n)

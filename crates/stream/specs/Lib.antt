@@ -1,0 +1,7 @@
+-- 01's section "The receiver", in its order, and demand 3. Assumes nothing.
+pub mod Seen
+pub mod State
+pub mod Contents
+pub mod Receiver
+pub mod Calls
+pub mod Demand3
