@@ -1,0 +1,145 @@
+-- A payload byte, and a byte between parts: what the decision is. Assumes nothing.
+use mathlib.Core.Path.{_≡_, refl, _∙_, subst}
+use mathlib.Core.Bool.{Bool, true, false, _&&_}
+use mathlib.Core.List.{List, _∷_}
+use Prim.Native.Nat.{ℕ, _+_, _*_, _-_, _≤_, _<_}
+use native.Mathlib.Omega.{arith}
+use lib.Dec.{eqb, ltb}
+use lib.ListN.{length, getD, set, drop, length-set}
+use borrow.Author.Tests.{eqb-true, eq-eqb, ne-eqb, lt-ltb}
+use Rattle.texts.specs.Bytes.{same}
+use Rattle.texts.specs.Text.{FD}
+use Rattle.texts.specs.Kinds.{isStartKind, isEndKind, partOf, textNumber, blockLength}
+use Rattle.texts.specs.DataBlock.{isPayloadByte}
+use Rattle.text_laws.proofs.Payload.{payload-below}
+use Rattle.stream.specs.Seen.{endsOpening}
+use Rattle.stream.specs.Contents.{takesByte}
+use Rattle.stream.specs.Receiver.{_⊕_}
+use Rattle.step.specs.Meaning.{seenOf, pushSeen, pushCount}
+use Rattle.step.specs.Decide.{frame, withFrame, quietly, betweenTexts, gapDecided, withinText, advanced, enteredByte, blockDecided, textDecided, pushedState, decide, applied}
+use Rattle.step.specs.declared.state.State.{State}
+use Rattle.step.specs.declared.state.Answer.the-variants.{Quiet}
+use Rattle.step.specs.declared.state.Effect.the-variants.{Keep, Enter}
+use Rattle.receiver.specs.Returned.{isQuiet}
+use Rattle.text_laws.proofs.Rules.{and-split}
+use Rattle.receiver.specs.Run.{run, Same, SameGrid, paid, idled, isIdle}
+use Rattle.receiver.proofs.Runs.{run-quiet, same-trans}
+
+-- an opening ends with `FD` only
+pub no-opening : (seen : List ℕ) (b : ℕ) → eqb b FD ≡ false → endsOpening seen b ≡ false
+unfolding endsOpening same
+no-opening seen b e = rw e
+
+-- where payload byte `place` of a kind's block enters the grid
+abbrev pub spot : ℕ → ℕ → ℕ
+spot kind place = 2000 * (textNumber kind - 1) + (place - 3)
+
+module _ (s : State) (place check seen count b : ℕ)
+    (start : isStartKind (s .frame .kind) ≡ false) (end : isEndKind (s .frame .kind) ≡ false)
+    (three : 3 ≤ place) (long : place < blockLength (s .frame .kind))
+    (rule : isPayloadByte (partOf (s .frame .kind)) b ≡ true) where
+  pub paid-step :
+      decide (paid s place check seen count) b
+      ≡ record { next = paid s (place + 1) (check ⊕ b) (pushSeen seen b) (pushCount count); answer = Quiet; effect = Enter (spot (s .frame .kind) place) }
+  unfolding decide pushedState textDecided blockDecided takesByte enteredByte advanced withinText paid
+  paid-step =
+      simp (
+        no-opening (seenOf seen count) b (ne-eqb b FD (λ e. omega (arith, e, payload-below _ b rule))),
+        ne-eqb place 0 (omega (arith, three)),
+        ne-eqb place 1 (omega (arith, three)),
+        ne-eqb place 2 (omega (arith, three)),
+        lt-ltb place (blockLength (s .frame .kind)) long,
+        start,
+        end,
+        rule,
+      )
+
+-- one payload byte of a stretch
+pub paid-same :
+    (s : State) (g : List ℕ) (place check seen count i : ℕ) (bytes : List ℕ)
+    → isStartKind (s .frame .kind) ≡ false → isEndKind (s .frame .kind) ≡ false
+    → 3 ≤ place → place < blockLength (s .frame .kind)
+    → i < length bytes → isPayloadByte (partOf (s .frame .kind)) (getD bytes i 0) ≡ true
+    → Same (paid s place check seen count) g i
+    (paid s (place + 1) (check ⊕ getD bytes i 0) (pushSeen seen (getD bytes i 0)) (pushCount count))
+    (set g (spot (s .frame .kind) place) (getD bytes i 0)) (i + 1) bytes
+unfolding isQuiet applied
+paid-same s g place check seen count i bytes start end three long h rule =
+    let d = paid-step s place check seen count (getD bytes i 0) start end three long rule in
+    record {
+      runs = run-quiet (paid s place check seen count) g bytes i h (rw d) ∙ rw d;
+      long = length-set g _ _;
+      later = omega arith;
+      inside = omega (arith, h);
+    }
+
+-- a stretch with one payload byte more, under the names that the code has for its parts
+pub paid-on :
+    (s t : State) (f g : List ℕ) (from place check seen count i : ℕ) (bytes : List ℕ) {part base more counted : ℕ}
+    → part ≡ partOf (s .frame .kind) → base ≡ 2000 * (textNumber (s .frame .kind) - 1)
+    → more ≡ pushSeen seen (getD bytes i 0) → counted ≡ pushCount count
+    → isStartKind (s .frame .kind) ≡ false → isEndKind (s .frame .kind) ≡ false
+    → 3 ≤ place → place < blockLength (s .frame .kind)
+    → i < length bytes → isPayloadByte part (getD bytes i 0) ≡ true
+    → Same t f from (paid s place check seen count) g i bytes
+    → Same t f from (paid s (place + 1) (check ⊕ getD bytes i 0) more counted) (set g (base + (place - 3)) (getD bytes i 0)) (i + 1) bytes
+paid-on s t f g from place check seen count i bytes p b m n start end three long h rule before =
+    rw (b, m, n)
+    (same-trans before
+    (paid-same s g place check seen count i bytes start end three long h
+    (subst (λ q. isPayloadByte q (getD bytes i 0) ≡ true) p rule)))
+
+-- the state at a stretch's first byte
+pub paid-first : (s : State) → paid s (s .frame .place) (s .frame .check) (s .seen) (s .frame .count) ≡ s
+unfolding paid
+paid-first s = refl
+
+-- a byte between parts that ends no opening
+pub idle-step : (s : State) (b : ℕ) → s .frame .place ≡ 0 → s .frame .part ≡ 0 → eqb b FD ≡ false
+    → decide s b ≡ record { next = idled s (pushSeen (s .seen) b) (pushCount (s .frame .count)); answer = Quiet; effect = Keep }
+unfolding decide pushedState gapDecided quietly betweenTexts idled
+idle-step s b place part e =
+    simp (no-opening (seenOf (s .seen) (s .frame .count)) b e, eq-eqb (s .frame .place) 0 place, eq-eqb (s .frame .part) 0 part)
+
+pub idle-same :
+    (s : State) (g : List ℕ) (i : ℕ) (bytes : List ℕ) → s .frame .place ≡ 0 → s .frame .part ≡ 0
+    → i < length bytes → eqb (getD bytes i 0) FD ≡ false
+    → Same s g i (idled s (pushSeen (s .seen) (getD bytes i 0)) (pushCount (s .frame .count))) g (i + 1) bytes
+unfolding isQuiet applied
+idle-same s g i bytes place part h e =
+    let d = idle-step s (getD bytes i 0) place part e in
+    record {
+      runs = run-quiet s g bytes i h (rw d) ∙ rw d;
+      long = refl;
+      later = omega arith;
+      inside = omega (arith, h);
+    }
+
+-- an idle frame has nothing but the count of bytes seen
+built : (s : State) (place kind picture part due check : ℕ)
+    → s .frame .place ≡ place → s .frame .kind ≡ kind → s .frame .picture ≡ picture
+    → s .frame .part ≡ part → s .frame .due ≡ due → s .frame .check ≡ check
+    → withFrame s (frame place kind picture part due check (s .frame .count)) ≡ s
+built s place kind picture part due check a b c d e f = rw (← a, ← b, ← c, ← d, ← e, ← f)
+
+pub idle-first : (s : State) → isIdle (s .frame) ≡ true → idled s (s .seen) (s .frame .count) ≡ s
+unfolding isIdle idled
+idle-first s h =
+    let f = s .frame in
+    let (h1, check) = and-split _ _ h in
+    let (h2, due) = and-split _ _ h1 in
+    let (h3, picture) = and-split _ _ h2 in
+    let (h4, kind) = and-split _ _ h3 in
+    let (place, part) = and-split _ _ h4 in
+    built s 0 0 0 0 0 0 (eqb-true (f .place) 0 place) (eqb-true (f .kind) 0 kind) (eqb-true (f .picture) 0 picture)
+    (eqb-true (f .part) 0 part) (eqb-true (f .due) 0 due) (eqb-true (f .check) 0 check)
+
+-- a stretch between parts with one byte more, under the names that the code has for its parts
+pub idle-on :
+    (s : State) (from seen count i : ℕ) (bytes : List ℕ) {more counted : ℕ}
+    → more ≡ pushSeen seen (getD bytes i 0) → counted ≡ pushCount count
+    → i < length bytes → eqb (getD bytes i 0) FD ≡ false
+    → SameGrid s from (idled s seen count) i bytes → SameGrid s from (idled s more counted) (i + 1) bytes
+unfolding idled
+idle-on s from seen count i bytes m n h e before g =
+    rw (m, n) (same-trans (before g) (idle-same (idled s seen count) g i bytes refl refl h e))

@@ -1,0 +1,58 @@
+-- The stretch so far is the same as the bytes one by one. Assumes nothing.
+use mathlib.Core.Path.{refl}
+use Prim.Native.Nat.{_-_}
+use native.Mathlib.Omega.{arith}
+use lib.ListN.{length}
+use borrow.Author.Needs.{needs}
+use borrow.Author.Tests.{ne-eqb}
+use Rattle.receiver.specs.Run.{SameGrid, idled}
+use Rattle.receiver.proofs.Stretches.{idle-first, idle-on}
+use Rattle.receiver.proofs.ahead.idle_run.Statement.{statement}
+use Rattle.receiver.proofs.ahead.idle_run.Tie as tie
+
+abbrev Inv-loop : tie.InvT-loop
+Inv-loop s bytes from seen₀ count₀ i₀ seen count i = SameGrid s from (idled s seen count) i bytes
+
+abbrev μ-loop : tie.MeasureT-loop
+μ-loop s bytes from seen₀ count₀ i₀ seen count i = length bytes - i
+
+loop-holds : tie.Need-loop-holds Inv-loop μ-loop
+loop-holds c g =
+    let start = c .before .before in
+    record {
+      runs = rw (idle-first (start .args .s) (start .pre .0));
+      long = refl;
+      later = omega arith;
+      inside = start .pre .1;
+    }
+
+returns : tie.Need-returns Inv-loop μ-loop
+returns c = rw (c .idle-state .ensures) (c .before .before .before .before .loop .inv)
+
+loop-again : tie.Need-loop-again Inv-loop μ-loop
+loop-again c =
+    let l = c .before .before .before .before .before in
+    let a = l .before .before .before .args in
+    idle-on (a .s) (a .from) (l .loop .seen) (l .loop .count) (l .loop .i) (a .bytes .now) (c .before .pushed .ensures) (c .counted .ensures)
+    (c .before .before .before .before .loop-test .taken) (ne-eqb _ _ (c .before .before .if1 .left)) (l .loop .inv)
+
+returns-2 : tie.Need-returns-2 Inv-loop μ-loop
+returns-2 c = rw (c .idle-state2 .ensures) (c .before .before .loop .inv)
+
+pub idle-run-spec : {M : Type 1} → statement M
+idle-run-spec =
+    tie.close
+    (tie.spec
+    Inv-loop
+    μ-loop
+    loop-holds
+    (λ c. search needs)
+    (λ c κs. search needs)
+    returns
+    (λ c κs. search needs)
+    (λ c κs. search needs)
+    (λ c. omega arith)
+    (λ c. omega arith)
+    loop-again
+    (λ c κs. search needs)
+    returns-2)

@@ -1,0 +1,47 @@
+-- What a call of the code returned, in the terms of `stream`'s calls. Assumes nothing.
+use Prim.Native.Nat.{ℕ}
+use mathlib.Core.Bool.{Bool, true, false}
+use mathlib.Core.List.{List, [], _∷_}
+use Rattle.stream.specs.Calls.{Reply, answered, refused, Received}
+use Rattle.step.specs.Meaning.{pushSeen, stateOf}
+use Rattle.step.specs.declared.state.State.{State}
+use Rattle.step.specs.declared.state.Answer.{Answer}
+use Rattle.step.specs.declared.state.Answer.the-variants.{Quiet, Begun, Taken, Complete, Dropped, Refused}
+use Rattle.step.specs.declared.state.Effect.{Effect}
+use Rattle.step.specs.declared.state.Effect.the-variants.{Keep, Clear, Enter}
+use Rattle.texts.specs.Part.{zeros}
+use lib.ListN.{length, set}
+use Rattle.receiver.specs.declared.calls.Got.{Got}
+
+-- 01's numbers; a refusal is told apart from an answer
+unfoldable pub replyOf : Answer → Reply
+replyOf Quiet = answered 0
+replyOf Begun = answered 1
+replyOf Taken = answered 2
+replyOf Complete = answered 3
+replyOf (Dropped n) = answered n
+replyOf (Refused n) = refused n
+
+-- a call's result, with the grid at its exit
+unfoldable pub returned : Got → List ℕ → Received
+returned r g = record { reply = replyOf (r .answer); count = r .count; state = stateOf (r .state); grid = g }
+
+-- the number that holds the bytes seen, after these bytes
+unfoldable pub seenAfter : ℕ → List ℕ → ℕ
+seenAfter v [] = v
+seenAfter v (b ∷ bytes) = seenAfter (pushSeen v b) bytes
+
+-- answer 0
+unfoldable pub isQuiet : Answer → Bool
+isQuiet Quiet = true
+isQuiet Begun = false
+isQuiet Taken = false
+isQuiet Complete = false
+isQuiet (Dropped n) = false
+isQuiet (Refused n) = false
+
+-- an effect on a grid of any length
+unfoldable pub appliedTo : List ℕ → Effect → ℕ → List ℕ
+appliedTo g Keep b = g
+appliedTo g Clear b = zeros (length g)
+appliedTo g (Enter i) b = set g i b

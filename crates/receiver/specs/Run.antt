@@ -1,0 +1,58 @@
+-- The bytes of a slice, one by one, in the code's terms. Assumes nothing.
+use mathlib.Core.Path.{_≡_}
+use mathlib.Core.Bool.{Bool, cond, _&&_}
+use lib.Dec.{eqb}
+use mathlib.Core.List.{List, [], _∷_}
+use Prim.Native.Nat.{ℕ, _+_, _≤_}
+use lib.ListN.{length, drop}
+use Rattle.step.specs.Decide.{decide, applied, frame}
+use Rattle.step.specs.declared.state.Frame.{Frame}
+use Rattle.step.specs.declared.state.State.{State}
+use Rattle.step.specs.declared.state.Answer.the-variants.{Quiet}
+use Rattle.receiver.specs.Returned.{isQuiet}
+use Rattle.receiver.specs.declared.calls.Got.{Got}
+
+-- a call's result and its grid
+pub record Ran : Type 0 where
+  pub got : Got
+  pub grid : List ℕ
+
+-- bytes from a state and a grid; i bytes were taken before
+unfoldable pub run : State → List ℕ → List ℕ → ℕ → Ran
+run s g [] i = record { got = record { state = s; answer = Quiet; count = i }; grid = g }
+run s g (b ∷ bytes) i =
+    let d = decide s b in
+    let h = applied g (d .effect) b in
+    cond (isQuiet (d .answer)) (run (d .next) h bytes (i + 1))
+    (record { got = record { state = d .next; answer = d .answer; count = i + 1 }; grid = h })
+
+-- to go on from byte i with one state and grid is to go on from byte j with others
+pub record Same (s : State) (g : List ℕ) (i : ℕ) (t : State) (h : List ℕ) (j : ℕ) (bytes : List ℕ) : Type 0 where
+  pub runs : run s g (drop i bytes) i ≡ run t h (drop j bytes) j
+  pub long : length h ≡ length g
+  pub later : i ≤ j
+  pub inside : j ≤ length bytes
+
+-- the state inside a payload: place, check byte and the bytes seen have moved on
+unfoldable pub paid : State → ℕ → ℕ → ℕ → ℕ → State
+paid s place check seen count =
+    record {
+      seen = seen;
+      frame =
+          frame place (s .frame .kind) (s .frame .picture) (s .frame .part) (s .frame .due) check count;
+      header = s .header;
+      modes = s .modes;
+    }
+
+-- the state between parts: the bytes seen have moved on
+unfoldable pub idled : State → ℕ → ℕ → State
+idled s seen count = record { seen = seen; frame = frame 0 0 0 0 0 0 count; header = s .header; modes = s .modes }
+
+-- nothing is under way and no part is open
+unfoldable pub isIdle : Frame → Bool
+isIdle f =
+    eqb (f .place) 0 && eqb (f .part) 0 && eqb (f .kind) 0 && eqb (f .picture) 0 && eqb (f .due) 0 && eqb (f .check) 0
+
+-- the same, whatever the grid, which stays
+abbrev pub SameGrid : State → ℕ → State → ℕ → List ℕ → Type 0
+SameGrid s i t j bytes = (g : List ℕ) → Same s g i t g j bytes

@@ -1,0 +1,4 @@
+-- The laws that the receiver's proofs share.
+pub mod KindLaws
+pub mod SeenLaws
+pub mod Same
