@@ -11,6 +11,7 @@ use Rattle.stream.specs.Seen.{endsOpening, dueByte}
 use Rattle.stream.specs.Contents.{takesByte}
 use Rattle.stream.specs.Receiver.{endsWell}
 use Rattle.stream.specs.Calls.{answered}
+use Rattle.stream.proofs.Opening.{by-if}
 use Rattle.step.specs.Meaning.{seenOf, pushSeen}
 use Rattle.step.specs.Decide.{withinText, betweenTexts, droppedState, drops, quietly, openedText, gapDecided, pictureDecided, startingText, kindDecided, advanced, enteredByte, blockDecided, eorDecided, checkDecided, lastDecided, textDecided, pushedState, decide, numberOf}
 use Rattle.step.specs.declared.state.State.{State}
@@ -18,8 +19,7 @@ use Rattle.step.specs.declared.state.Decided.{Decided}
 use Rattle.receiver.specs.Returned.{replyOf, isQuiet}
 
 either : {A : Type 0} (P : A → Type 0) (c : Bool) {x y : A} → P x → P y → P (cond c x y)
-either P true p q = p
-either P false p q = q
+either P c p q = by-if P c (λ _. p) (λ _. q)
 
 module _ (s : State) (b : ℕ) where
   abbrev t : State

@@ -7,7 +7,7 @@ use native.Mathlib.Numerals.{add-one}
 use native.Mathlib.Nat.{add-zero, zero-add}
 use native.Mathlib.Omega.{arith}
 use lib.Dec.{eqb}
-use lib.ListN.{length, getD, drop, take, drop-of-length-le, length-set, length-replicate}
+use lib.ListN.{length, getD, drop, take, drop-of-length-le, length-set}
 use lib.Seq.{drop-cons}
 use Rattle.stream.specs.Receiver.{step}
 use Rattle.stream.specs.Calls.{Received, feed, sliceCall, answered}
@@ -20,6 +20,7 @@ use Rattle.step.specs.Decide.{decide, applied, numberOf}
 use Rattle.step.specs.declared.state.State.{State}
 use Rattle.step.specs.declared.state.Decided.{Decided}
 use Rattle.step.specs.declared.state.Answer.the-variants.{Quiet}
+use Rattle.stream.proofs.WholeParts.{zeros-long}
 use Rattle.step.proofs.SeenLaws.{push-seen}
 use Rattle.step.proofs.Same.{meaning, step-same}
 use Rattle.step.specs.declared.state.Effect.{Effect}
@@ -116,14 +117,10 @@ same-trans p q =
 pub same-here : {s : State} {g : List ℕ} {i : ℕ} {bytes : List ℕ} → i ≤ length bytes → Same s g i s g i bytes
 same-here h = record { runs = refl; long = refl; later = omega arith; inside = h }
 
-length-zeros : (n : ℕ) → length (zeros n) ≡ n
-unfolding zeros
-length-zeros n = length-replicate n 0
-
 length-applied : (g : List ℕ) (e : Effect) (b : ℕ) → length (appliedTo g e b) ≡ length g
 unfolding appliedTo
 length-applied g Keep b = refl
-length-applied g Clear b = length-zeros (length g)
+length-applied g Clear b = zeros-long (length g)
 length-applied g (Enter i) b = length-set g i b
 
 -- a stretch with one quiet byte more, under the names that the code has for the decision and the grid

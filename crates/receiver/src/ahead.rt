@@ -57,7 +57,8 @@ fn paid_state(s: State, place: u16, check: u8, seen: u64, count: u8) -> State
     }
 }
 
-// Payload bytes from here on, as far as they keep their rule and the block goes
+// Payload bytes from here on, as far as they keep their rule and the block goes.
+// Notice 49, 4(1)(1-1)(c)(エ), 4(1)(1-2)(c)(エ), 4(2)(c)(エ)
 fn payload_run(s: State, grid: &mut [u8], bytes: &[u8], from: usize) -> Reached
     requires { ⌜ isStartKind (s .frame .kind) ≡ false ⌝ }
     requires { ⌜ isEndKind (s .frame .kind) ≡ false ⌝ }
@@ -119,7 +120,8 @@ fn idle_state(s: State, seen: u64, count: u8) -> State
     }
 }
 
-// Bytes between parts from here on, up to the next `FD`, without which no opening ends
+// Bytes between parts from here on, up to the next `FD`, without which no opening ends.
+// Notice 49, 4(1)(1-1)(c)(ア)
 fn idle_run(s: State, bytes: &[u8], from: usize) -> Reached
     requires { ⌜ isIdle (s .frame) ≡ true ⌝ }
     requires { ⌜ from ≤ length (now bytes) ⌝ }

@@ -54,19 +54,22 @@ drops s n = decided (droppedState s) (Dropped n) Clear
 unfoldable pub quietly : State → Decided
 quietly s = decided s Quiet Keep
 
+-- an opening has ended. Row 11. Notice 49, 4(1)(1-1)(c)(ア)
 unfoldable pub openedText : State → Decided
 openedText s =
     cond (eqb (s .frame .place) 0) (quietly (withinText s 1 0 0 FD)) (decided (withinText (droppedState s) 1 0 0 FD) (Dropped 11) Clear)
 
--- due is the opening's due byte
+-- between texts; due is the opening's due byte. Row 12. Notice 49, 4(1)(1-1)(a), 4(1)(1-2)(a), 4(2)(a)
 unfoldable pub gapDecided : State → ℕ → ℕ → Decided
 gapDecided s due b =
     cond (eqb (s .frame .part) 0) (quietly (betweenTexts s 0 0))
     (cond (eqb b due) (quietly (betweenTexts s (s .frame .part) (s .frame .due))) (drops s 12))
 
+-- block byte 1. Row 13. Notice 49, 5(1)
 unfoldable pub pictureDecided : State → ℕ → Decided
 pictureDecided s b = cond (isPictureCode b) (quietly (withinText s 2 0 b (s .frame .check ⊕ b))) (drops s 13)
 
+-- a start kind is taken. Notice 49, 4(1)(1-1)(c)(イ)
 unfoldable pub startingText : State → ℕ → State
 startingText s b =
     record {
@@ -76,6 +79,7 @@ startingText s b =
       modes = noModes;
     }
 
+-- block byte 2. Rows 14 to 17. Notice 49, 4(1)(1-1)(d)(イ) and (ウ), 4(1)(1-2)(d)(イ) and (ウ), 4(2)(d)(イ) and (ウ)
 unfoldable pub kindDecided : State → ℕ → Decided
 kindDecided s b =
     cond (not (isKind b)) (drops s 14)
@@ -96,16 +100,18 @@ withHeader s h = record { seen = s .seen; frame = s .frame; header = h; modes = 
 abbrev pub withModes : State → List ℕ → State
 withModes s m = record { seen = s .seen; frame = s .frame; header = s .header; modes = m }
 
--- where it enters: header, modes or grid
+-- where it enters: header, modes or grid. Notice 49, 4(1)(1-1)(c)(イ) to (エ), 4(1)(1-2)(c)(エ), 4(2)(c)(エ)
 unfoldable pub enteredByte : State → ℕ → Decided
 enteredByte s b =
     cond (isStartKind (s .frame .kind)) (quietly (withHeader (advanced s b) (enterHeader (s .header) (s .frame .place) b)))
     (cond (isEndKind (s .frame .kind)) (quietly (withModes (advanced s b) (enterModes (s .modes) (s .frame .place) b)))
     (decided (advanced s b) Quiet (Enter (2000 * (textNumber (s .frame .kind) - 1) + (s .frame .place - 3)))))
 
+-- a later block byte. Row 18
 unfoldable pub blockDecided : State → ℕ → Decided
 blockDecided s b = cond (takesByte (s .frame .kind) (s .header) (s .frame .place) b) (enteredByte s b) (drops s 18)
 
+-- rows 19 and 20. Notice 49, 4(1)(1-1)(c)(ア)
 unfoldable pub eorDecided : State → ℕ → Decided
 eorDecided s b = cond (eqb b EOR) (quietly (advanced s b)) (drops s 19)
 
@@ -114,6 +120,7 @@ checkDecided s b =
     cond (eqb b (s .frame .check))
     (quietly (withinText s (s .frame .place + 1) (s .frame .kind) (s .frame .picture) (s .frame .check))) (drops s 20)
 
+-- rows 21 and 22; answers 1, 2 and 3. Notice 49, 4(1)(1-1)(c)(ア)
 unfoldable pub lastDecided : State → ℕ → Decided
 lastDecided s b =
     cond (not (eqb b TPAD)) (drops s 21)

@@ -39,7 +39,7 @@ stateOf s =
       modes = s .modes;
     }
 
--- places of the time: stops, and the number of a digit
+-- places of the time: stops, and the number of a digit. Notice 49, 4(1)(1-1)(d)(イ)
 unfoldable pub isStop : ℕ → Bool
 isStop i = isIn i stopPlaces
 

@@ -68,7 +68,7 @@ drop-zeros (suc n) (suc m) = drop-zeros n m ∙ ap zeros (less n m)
     less : (n m : ℕ) → m - n ≡ suc m - suc n
     less n m = omega arith
 
-zeros-long : (n : ℕ) → length (zeros n) ≡ n
+pub zeros-long : (n : ℕ) → length (zeros n) ≡ n
 unfolding zeros
 zeros-long n = length-replicate {A = ℕ} n 0
 

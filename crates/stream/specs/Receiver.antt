@@ -40,19 +40,21 @@ abbrev pub between : List ℕ → ℕ → ℕ → Header → List ℕ → State
 between seen part due header modes =
     record { seen = seen; place = 0; kind = 0; picture = 0; part = part; due = due; check = 0; header = header; modes = modes }
 
--- An opening starts a text at place 1; an open part's header stays. Row 11: while a text is under way, drop, and the new text goes on
+-- An opening starts a text at place 1; an open part's header stays. Row 11: while a text is under way, drop, and the new text goes on.
+-- Notice 49, 4(1)(1-1)(c)(ア)
 unfoldable pub opened : State → List ℕ → List ℕ → Step
 opened s g seen =
     cond (eqb (s .place) 0) (answers 0 (within s seen 1 0 0 FD) g) (answers 11 (within (dropped seen) seen 1 0 0 FD) emptyGrid)
 
--- Between texts. With no part open, bytes are free. Row 12: with a part open, the opening must follow byte upon byte
+-- Between texts. With no part open, bytes are free. Row 12: with a part open, the opening must follow byte upon byte.
+-- Notice 49, 4(1)(1-1)(a), 4(1)(1-2)(a), 4(2)(a)
 unfoldable pub gapByte : State → List ℕ → List ℕ → ℕ → Step
 gapByte s g seen b =
     cond (eqb (s .part) 0) (answers 0 (between seen 0 0 (s .header) (s .modes)) g)
     (cond (eqb b (dueByte (s .seen))) (answers 0 (between seen (s .part) (s .due) (s .header) (s .modes)) g)
     (drops 12 seen))
 
--- Block byte 1. Row 13: no picture code
+-- Block byte 1. Row 13: no picture code. Notice 49, 5(1)
 unfoldable pub pictureByte : State → List ℕ → List ℕ → ℕ → Step
 pictureByte s g seen b =
     cond (isPictureCode b) (answers 0 (within s seen 2 0 b (s .check ⊕ b)) g) (drops 13 seen)
@@ -73,7 +75,8 @@ starting s seen b =
     }
 
 -- Block byte 2. Row 14: no kind. Row 15: a start kind while a part is open; the part is dropped, and this text goes on.
--- Row 16: a data or end kind with no part open, or not the due one. Row 17: another picture code than the start's
+-- Row 16: a data or end kind with no part open, or not the due one. Row 17: another picture code than the start's.
+-- Notice 49, 4(1)(1-1)(d)(イ) and (ウ), 4(1)(1-2)(d)(イ) and (ウ), 4(2)(d)(イ) and (ウ)
 unfoldable pub kindByte : State → List ℕ → List ℕ → ℕ → Step
 kindByte s g seen b =
     cond (not (isKind b)) (drops 14 seen)
@@ -102,12 +105,12 @@ abbrev pub enteredGrid : State → List ℕ → ℕ → List ℕ
 enteredGrid s g b =
     cond (isStartKind (s .kind) || isEndKind (s .kind)) g (enterGrid g (textNumber (s .kind)) (s .place) b)
 
--- A later block byte. Row 18: it breaks its rule
+-- A later block byte. Row 18: it breaks its rule. Notice 49, 4(1)(1-1)(c)(イ) to (エ), 4(1)(1-2)(c)(エ), 4(2)(c)(エ)
 unfoldable pub blockByte : State → List ℕ → List ℕ → ℕ → Step
 blockByte s g seen b =
     cond (takesByte (s .kind) (s .header) (s .place) b) (answers 0 (entered s seen b) (enteredGrid s g b)) (drops 18 seen)
 
--- Rows 19 and 20: not `FE`; wrong check byte
+-- Rows 19 and 20: not `FE`; wrong check byte. Notice 49, 4(1)(1-1)(c)(ア)
 unfoldable pub eorByte : State → List ℕ → List ℕ → ℕ → Step
 eorByte s g seen b =
     cond (eqb b EOR) (answers 0 (within s seen (suc (s .place)) (s .kind) (s .picture) (s .check ⊕ b)) g) (drops 19 seen)
@@ -116,19 +119,20 @@ unfoldable pub checkedByte : State → List ℕ → List ℕ → ℕ → Step
 checkedByte s g seen b =
     cond (eqb b (s .check)) (answers 0 (within s seen (suc (s .place)) (s .kind) (s .picture) (s .check)) g) (drops 20 seen)
 
--- the text that is due after a start text, and after data text k
+-- the text that is due after a start text, which may have NO ECHO, and after data text k.
+-- Notice 49, 4(1)(1-1)(a), 4(1)(1-2)(a), 4(2)(a), 4(1)(1-1)(d)(イ)
 unfoldable pub firstDue : ℕ → Header → ℕ
 firstDue part h = cond (eqb (dataTexts part (h .noecho)) 0) 11 1
 
 unfoldable pub nextDue : ℕ → ℕ → ℕ
 nextDue part k = cond (ltb k (dataTexts part false)) (suc k) 11
 
--- Row 22: status 2 is the highest mode
+-- Row 22: status 2 is the highest mode. Notice 49, 4(1)(1-1)(d)(イ)
 unfoldable pub endsWell : Header → List ℕ → Bool
 endsWell h modes = eqb (h .mode) (highest modes)
 
 -- The last byte. Row 21: not `FF`. Answer 1, part begun: header kept, modes 0, whole grid 0. Answer 2, data text taken.
--- Answer 3, complete: no part open from here; header, modes and grid kept
+-- Answer 3, complete: no part open from here; header, modes and grid kept. Notice 49, 4(1)(1-1)(c)(ア)
 unfoldable pub lastByte : State → List ℕ → List ℕ → ℕ → Step
 lastByte s g seen b =
     cond (not (eqb b TPAD)) (drops 21 seen)

@@ -25,6 +25,6 @@ abbrev pub longestOf : ℕ → List ℕ → ℕ
 longestOf zero seen = 0
 longestOf (suc n) seen = cond (runOf (suc n) seen) (suc n) (longestOf n seen)
 
--- 01: the opening's due byte is the one after that run
+-- 01: the opening's due byte is the one after that run. Notice 49, 4(1)(1-1)(c)(ア)
 unfoldable pub dueByte : List ℕ → ℕ
 dueByte seen = opening ! longestOf 5 seen
