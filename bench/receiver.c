@@ -436,10 +436,11 @@ int refusal(const struct receiver *r, size_t grid_len)
 
 /* ---- The listening program
  *
- *     receiver byte|slice|payload [slice length, 0 for all that is left [states]]
+ *     receiver byte|asked|slice|payload [slice length, 0 for all that is left [states]]
  *
- * reads standard input and prints 01's lines; with "states" a line after each call instead, with the
- * answer, the state and the CRC-32 of the grid.
+ * reads standard input and prints 01's lines; "asked" is the byte call with refusals 1 and 2 asked before
+ * each byte, as 01's byte call does. With "states" it prints a line after each call instead, with the answer,
+ * the state and the CRC-32 of the grid, and stops at a state that would be refused.
  *
  *     receiver refusals
  *
@@ -496,9 +497,17 @@ static void print_refusals(const uint8_t *bytes, size_t len)
     }
 }
 
+enum way { BYTE, ASKED, SLICE, PAYLOAD };
+
+static enum way way_of(const char *name)
+{
+    return !strcmp(name, "slice") ? SLICE : !strcmp(name, "payload") ? PAYLOAD : !strcmp(name, "asked") ? ASKED : BYTE;
+}
+
 int main(int argc, char **argv)
 {
     const char *entry = argc > 1 ? argv[1] : "byte";
+    enum way way = way_of(entry);
     size_t most = argc > 2 ? strtoul(argv[2], NULL, 10) : 0;
     int states = argc > 3 && strcmp(argv[3], "states") == 0;
     size_t len = 0, room = 1 << 16, got;
@@ -519,19 +528,19 @@ int main(int argc, char **argv)
     fresh(&r, grid);
     for (size_t i = 0; i < len;) {
         size_t n = most == 0 || most > len - i ? len - i : most;
-        struct taken t;
-        if (strcmp(entry, "slice") == 0)
+        struct taken t = { 1, 0 };
+        if (way == SLICE)
             t = slice_call(&r, grid, bytes + i, n);
-        else if (strcmp(entry, "payload") == 0)
+        else if (way == PAYLOAD)
             t = slice_call_payload(&r, grid, bytes + i, n);
-        else
-            t = (struct taken){ 1, byte_call(&r, grid, bytes[i]) };
+        else if (way == BYTE || (t.answer = refusal(&r, GRID)) == 0)
+            t.answer = byte_call(&r, grid, bytes[i]);
         i += t.count;
-        if (refusal(&r, GRID) != 0) {
-            printf("after %zu bytes the state would be refused\n", i);
-            return 1;
-        }
         if (states) {
+            if (refusal(&r, GRID) != 0) {
+                printf("after %zu bytes the state would be refused\n", i);
+                return 1;
+            }
             printf("%zu %d", i, t.answer);
             print_state(&r, grid);
         } else if (t.answer != 0) {

@@ -1,5 +1,5 @@
 -- What every decision about a byte has: an answer that is 0 exactly where it is quiet, no refusal, and the byte among the
--- bytes seen. Assumes nothing.
+-- bytes seen and in their count. Assumes nothing.
 use mathlib.Core.Path.{_≡_, refl}
 use mathlib.Core.Bool.{Bool, true, false, cond, not}
 use Prim.Native.Nat.{ℕ, _+_}
@@ -12,7 +12,7 @@ use Rattle.stream.specs.Contents.{takesByte}
 use Rattle.stream.specs.Receiver.{endsWell}
 use Rattle.stream.specs.Calls.{answered}
 use Rattle.stream.proofs.Opening.{by-if}
-use Rattle.step.specs.Meaning.{seenOf, pushSeen}
+use Rattle.step.specs.Meaning.{seenOf, pushSeen, pushCount}
 use Rattle.step.specs.Decide.{withinText, betweenTexts, droppedState, drops, quietly, openedText, gapDecided, pictureDecided, startingText, kindDecided, advanced, enteredByte, blockDecided, eorDecided, checkDecided, lastDecided, textDecided, pushedState, decide, numberOf}
 use Rattle.step.specs.declared.state.State.{State}
 use Rattle.step.specs.declared.state.Decided.{Decided}
@@ -28,41 +28,43 @@ module _ (s : State) (b : ℕ) where
   abbrev pub Leaf : Decided → Type 0
   Leaf d =
       (isQuiet (d .answer) ≡ eqb (numberOf (d .answer)) 0)
-      × ((replyOf (d .answer) ≡ answered (numberOf (d .answer))) × (d .next .seen ≡ pushSeen (s .seen) b))
+      × (replyOf (d .answer) ≡ answered (numberOf (d .answer)))
+      × (d .next .seen ≡ pushSeen (s .seen) b)
+      × (d .next .frame .count ≡ pushCount (s .frame .count))
 
   -- a drop; its number is not 0
   lost : (n : ℕ) → eqb n 0 ≡ false → Leaf (drops t n)
   unfolding drops droppedState numberOf isQuiet replyOf pushedState
-  lost n e = (rw e, (refl, refl))
+  lost n e = (rw e, refl, refl, refl)
 
   opened-leaf : Leaf (openedText t)
   unfolding openedText quietly withinText droppedState numberOf isQuiet replyOf pushedState
-  opened-leaf = either Leaf (eqb (s .frame .place) 0) (refl, (refl, refl)) (refl, (refl, refl))
+  opened-leaf = either Leaf (eqb (s .frame .place) 0) (refl, refl, refl, refl) (refl, refl, refl, refl)
 
   gap-leaf : Leaf (gapDecided t (dueByte (seenOf (s .seen) (s .frame .count))) b)
   unfolding gapDecided quietly betweenTexts numberOf isQuiet replyOf pushedState
   gap-leaf =
-      either Leaf (eqb (s .frame .part) 0) (refl, (refl, refl))
-      (either Leaf (eqb b (dueByte (seenOf (s .seen) (s .frame .count)))) (refl, (refl, refl)) (lost 12 refl))
+      either Leaf (eqb (s .frame .part) 0) (refl, refl, refl, refl)
+      (either Leaf (eqb b (dueByte (seenOf (s .seen) (s .frame .count)))) (refl, refl, refl, refl) (lost 12 refl))
 
   picture-leaf : Leaf (pictureDecided t b)
   unfolding pictureDecided quietly withinText numberOf isQuiet replyOf pushedState
-  picture-leaf = either Leaf (isPictureCode b) (refl, (refl, refl)) (lost 13 refl)
+  picture-leaf = either Leaf (isPictureCode b) (refl, refl, refl, refl) (lost 13 refl)
 
   kind-leaf : Leaf (kindDecided t b)
   unfolding kindDecided quietly withinText startingText numberOf isQuiet replyOf pushedState
   kind-leaf =
       either Leaf (not (isKind b)) (lost 14 refl)
-      (either Leaf (isStartKind b) (either Leaf (eqb (s .frame .part) 0) (refl, (refl, refl)) (refl, (refl, refl)))
+      (either Leaf (isStartKind b) (either Leaf (eqb (s .frame .part) 0) (refl, refl, refl, refl) (refl, refl, refl, refl))
       (either Leaf (eqb (s .frame .part) 0) (lost 16 refl)
       (either Leaf (not (eqb b (kindOf (s .frame .part) (s .frame .due)))) (lost 16 refl)
-      (either Leaf (eqb (s .frame .picture) (s .header .picture)) (refl, (refl, refl)) (lost 17 refl)))))
+      (either Leaf (eqb (s .frame .picture) (s .header .picture)) (refl, refl, refl, refl) (lost 17 refl)))))
 
   entered-leaf : Leaf (enteredByte t b)
   unfolding enteredByte quietly advanced withinText numberOf isQuiet replyOf pushedState
   entered-leaf =
-      either Leaf (isStartKind (s .frame .kind)) (refl, (refl, refl))
-      (either Leaf (isEndKind (s .frame .kind)) (refl, (refl, refl)) (refl, (refl, refl)))
+      either Leaf (isStartKind (s .frame .kind)) (refl, refl, refl, refl)
+      (either Leaf (isEndKind (s .frame .kind)) (refl, refl, refl, refl) (refl, refl, refl, refl))
 
   block-leaf : Leaf (blockDecided t b)
   unfolding blockDecided pushedState
@@ -70,19 +72,19 @@ module _ (s : State) (b : ℕ) where
 
   eor-leaf : Leaf (eorDecided t b)
   unfolding eorDecided quietly advanced withinText numberOf isQuiet replyOf pushedState
-  eor-leaf = either Leaf (eqb b EOR) (refl, (refl, refl)) (lost 19 refl)
+  eor-leaf = either Leaf (eqb b EOR) (refl, refl, refl, refl) (lost 19 refl)
 
   check-leaf : Leaf (checkDecided t b)
   unfolding checkDecided quietly withinText numberOf isQuiet replyOf pushedState
-  check-leaf = either Leaf (eqb b (s .frame .check)) (refl, (refl, refl)) (lost 20 refl)
+  check-leaf = either Leaf (eqb b (s .frame .check)) (refl, refl, refl, refl) (lost 20 refl)
 
   last-leaf : Leaf (lastDecided t b)
   unfolding lastDecided betweenTexts numberOf isQuiet replyOf pushedState
   last-leaf =
       either Leaf (not (eqb b TPAD)) (lost 21 refl)
-      (either Leaf (isStartKind (s .frame .kind)) (refl, (refl, refl))
+      (either Leaf (isStartKind (s .frame .kind)) (refl, refl, refl, refl)
       (either Leaf (isEndKind (s .frame .kind))
-      (either Leaf (endsWell (s .header) (s .modes)) (refl, (refl, refl)) (lost 22 refl)) (refl, (refl, refl))))
+      (either Leaf (endsWell (s .header) (s .modes)) (refl, refl, refl, refl) (lost 22 refl)) (refl, refl, refl, refl)))
 
   text-leaf : Leaf (textDecided t b)
   unfolding textDecided pushedState

@@ -2,3 +2,6 @@
 pub mod Leaves
 pub mod Runs
 pub mod Stretches
+pub mod Quiet
+pub mod Tallies
+pub mod Wholes

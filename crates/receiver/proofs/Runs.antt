@@ -71,7 +71,7 @@ pub run-means : (s : State) (g bytes : List ℕ) (i : ℕ) → Bytes bytes
 unfolding run feed returned replyOf
 run-means s g [] i small = rw add-zero
 run-means s g (b ∷ bytes) i small =
-    let (quiet, (reply, seen)) = decide-leaf s b in
+    let (quiet, reply, seen, count) = decide-leaf s b in
     rw (← same-step s g b (small 0))
     (by-test (isQuiet (decide s b .answer))
     (λ q. rw (q, sym quiet ∙ q) (run-means (decide s b .next) (applied g (decide s b .effect) b) bytes (i + 1) (λ j. small (suc j)) ∙ rw later))
@@ -82,7 +82,7 @@ pub run-seen : (s : State) (g bytes : List ℕ) (i : ℕ) → Bytes bytes
 unfolding run feed seenAfter
 run-seen s g [] i small = refl
 run-seen s g (b ∷ bytes) i small =
-    let (quiet, (reply, seen)) = decide-leaf s b in
+    let (quiet, reply, seen, count) = decide-leaf s b in
     rw (← same-step s g b (small 0))
     (by-test (isQuiet (decide s b .answer))
     (λ q. rw (q, sym quiet ∙ q) (run-seen (decide s b .next) (applied g (decide s b .effect) b) bytes (i + 1) (λ j. small (suc j)) ∙ rw seen))

@@ -1,18 +1,19 @@
 -- A payload byte, and a byte between parts: what the decision is. Assumes nothing.
 use mathlib.Core.Path.{_≡_, refl, _∙_, subst}
+use mathlib.Core.Logic.{_⊎_, inl, inr, _≢_}
 use mathlib.Core.Bool.{Bool, true, false, _&&_}
 use mathlib.Core.List.{List, _∷_}
 use Prim.Native.Nat.{ℕ, _+_, _*_, _-_, _≤_, _<_}
 use native.Mathlib.Omega.{arith}
 use lib.Dec.{eqb, ltb}
 use lib.ListN.{length, getD, set, drop, length-set}
-use borrow.Author.Tests.{eqb-true, eq-eqb, ne-eqb, lt-ltb}
+use borrow.Author.Tests.{eqb-true, eqb-false, eq-eqb, ne-eqb, lt-ltb}
 use Rattle.texts.specs.Bytes.{same}
 use Rattle.texts.specs.Text.{FD}
 use Rattle.texts.specs.Kinds.{isStartKind, isEndKind, partOf, textNumber, blockLength}
 use Rattle.texts.specs.DataBlock.{isPayloadByte}
 use Rattle.text_laws.proofs.Payload.{payload-below}
-use Rattle.stream.specs.Seen.{endsOpening}
+use Rattle.stream.specs.Seen.{endsOpening, dueByte}
 use Rattle.stream.specs.Contents.{takesByte}
 use Rattle.stream.specs.Receiver.{_⊕_}
 use Rattle.step.specs.Meaning.{seenOf, pushSeen, pushCount}
@@ -22,8 +23,8 @@ use Rattle.step.specs.declared.state.Answer.the-variants.{Quiet}
 use Rattle.step.specs.declared.state.Effect.the-variants.{Keep, Enter}
 use Rattle.receiver.specs.Returned.{isQuiet}
 use Rattle.text_laws.proofs.Rules.{and-split}
-use Rattle.receiver.specs.Run.{run, Same, SameGrid, paid, idled, isIdle}
-use Rattle.receiver.proofs.Runs.{run-quiet, same-trans}
+use Rattle.receiver.specs.Run.{run, Same, SameGrid, paid, waiting, isIdle, isGap}
+use Rattle.receiver.proofs.Runs.{run-quiet, same-trans, not-un}
 
 -- an opening ends with `FD` only
 pub no-opening : (seen : List ℕ) (b : ℕ) → eqb b FD ≡ false → endsOpening seen b ≡ false
@@ -94,52 +95,78 @@ pub paid-first : (s : State) → paid s (s .frame .place) (s .frame .check) (s .
 unfolding paid
 paid-first s = refl
 
--- a byte between parts that ends no opening
-pub idle-step : (s : State) (b : ℕ) → s .frame .place ≡ 0 → s .frame .part ≡ 0 → eqb b FD ≡ false
-    → decide s b ≡ record { next = idled s (pushSeen (s .seen) b) (pushCount (s .frame .count)); answer = Quiet; effect = Keep }
-unfolding decide pushedState gapDecided quietly betweenTexts idled
-idle-step s b place part e =
-    simp (no-opening (seenOf (s .seen) (s .frame .count)) b e, eq-eqb (s .frame .place) 0 place, eq-eqb (s .frame .part) 0 part)
+-- what an idle frame has, and one with a part open: nothing but part, due text and the count of bytes seen
+module _ (s : State) where
+  pub waiting-first : s .frame .place ≡ 0 → s .frame .kind ≡ 0 → s .frame .picture ≡ 0 → s .frame .check ≡ 0 → waiting s (s .seen) (s .frame .count) ≡ s
+  unfolding waiting
+  waiting-first place kind picture check =
+      built s 0 0 0 (s .frame .part) (s .frame .due) 0 place kind picture refl refl check
+    where
+      built : (s : State) (place kind picture part due check : ℕ)
+          → s .frame .place ≡ place → s .frame .kind ≡ kind → s .frame .picture ≡ picture
+          → s .frame .part ≡ part → s .frame .due ≡ due → s .frame .check ≡ check
+          → withFrame s (frame place kind picture part due check (s .frame .count)) ≡ s
+      built s place kind picture part due check a b c d e f = rw (← a, ← b, ← c, ← d, ← e, ← f)
 
-pub idle-same :
-    (s : State) (g : List ℕ) (i : ℕ) (bytes : List ℕ) → s .frame .place ≡ 0 → s .frame .part ≡ 0
-    → i < length bytes → eqb (getD bytes i 0) FD ≡ false
-    → Same s g i (idled s (pushSeen (s .seen) (getD bytes i 0)) (pushCount (s .frame .count))) g (i + 1) bytes
-unfolding isQuiet applied
-idle-same s g i bytes place part h e =
-    let d = idle-step s (getD bytes i 0) place part e in
-    record {
-      runs = run-quiet s g bytes i h (rw d) ∙ rw d;
-      long = refl;
-      later = omega arith;
-      inside = omega (arith, h);
-    }
+  pub idle-has : isIdle (s .frame) ≡ true
+      → (s .frame .place ≡ 0) × (s .frame .part ≡ 0) × (s .frame .kind ≡ 0) × (s .frame .picture ≡ 0) × (s .frame .due ≡ 0) × (s .frame .check ≡ 0)
+  unfolding isIdle
+  idle-has h =
+      let f = s .frame in
+      let (h1, check) = and-split _ _ h in
+      let (h2, due) = and-split _ _ h1 in
+      let (h3, picture) = and-split _ _ h2 in
+      let (h4, kind) = and-split _ _ h3 in
+      let (place, part) = and-split _ _ h4 in (
+        eqb-true (f .place) 0 place,
+        eqb-true (f .part) 0 part,
+        eqb-true (f .kind) 0 kind,
+        eqb-true (f .picture) 0 picture,
+        eqb-true (f .due) 0 due,
+        eqb-true (f .check) 0 check,
+      )
 
--- an idle frame has nothing but the count of bytes seen
-built : (s : State) (place kind picture part due check : ℕ)
-    → s .frame .place ≡ place → s .frame .kind ≡ kind → s .frame .picture ≡ picture
-    → s .frame .part ≡ part → s .frame .due ≡ due → s .frame .check ≡ check
-    → withFrame s (frame place kind picture part due check (s .frame .count)) ≡ s
-built s place kind picture part due check a b c d e f = rw (← a, ← b, ← c, ← d, ← e, ← f)
+  pub gap-has : isGap (s .frame) ≡ true
+      → (s .frame .place ≡ 0) × (s .frame .part ≢ 0) × (s .frame .kind ≡ 0) × (s .frame .picture ≡ 0) × (s .frame .check ≡ 0)
+  unfolding isGap
+  gap-has h =
+      let f = s .frame in
+      let (h1, check) = and-split _ _ h in
+      let (h2, picture) = and-split _ _ h1 in
+      let (h3, kind) = and-split _ _ h2 in
+      let (place, part) = and-split _ _ h3 in (
+        eqb-true (f .place) 0 place,
+        eqb-false (f .part) 0 (not-un _ part),
+        eqb-true (f .kind) 0 kind,
+        eqb-true (f .picture) 0 picture,
+        eqb-true (f .check) 0 check,
+      )
 
-pub idle-first : (s : State) → isIdle (s .frame) ≡ true → idled s (s .seen) (s .frame .count) ≡ s
-unfolding isIdle idled
-idle-first s h =
-    let f = s .frame in
-    let (h1, check) = and-split _ _ h in
-    let (h2, due) = and-split _ _ h1 in
-    let (h3, picture) = and-split _ _ h2 in
-    let (h4, kind) = and-split _ _ h3 in
-    let (place, part) = and-split _ _ h4 in
-    built s 0 0 0 0 0 0 (eqb-true (f .place) 0 place) (eqb-true (f .kind) 0 kind) (eqb-true (f .picture) 0 picture)
-    (eqb-true (f .part) 0 part) (eqb-true (f .due) 0 due) (eqb-true (f .check) 0 check)
+-- a byte between texts that is free, or the due one, and ends no opening
+between-step : (s : State) (seen count b : ℕ) → eqb b FD ≡ false
+    → ((s .frame .part ≡ 0) × (s .frame .due ≡ 0)) ⊎ ((s .frame .part ≢ 0) × (b ≡ dueByte (seenOf seen count)))
+    → decide (waiting s seen count) b ≡ record { next = waiting s (pushSeen seen b) (pushCount count); answer = Quiet; effect = Keep }
+unfolding decide pushedState gapDecided quietly betweenTexts waiting
+between-step s seen count b e (inl (part, due)) =
+    simp (no-opening (seenOf seen count) b e, part, due)
+between-step s seen count b e (inr (part, due)) =
+    simp (no-opening (seenOf seen count) b e, ne-eqb (s .frame .part) 0 part, eq-eqb b (dueByte (seenOf seen count)) due)
 
--- a stretch between parts with one byte more, under the names that the code has for its parts
-pub idle-on :
+-- a stretch between texts with one byte more, under the names that the code has for its parts
+pub between-on :
     (s : State) (from seen count i : ℕ) (bytes : List ℕ) {more counted : ℕ}
     → more ≡ pushSeen seen (getD bytes i 0) → counted ≡ pushCount count
     → i < length bytes → eqb (getD bytes i 0) FD ≡ false
-    → SameGrid s from (idled s seen count) i bytes → SameGrid s from (idled s more counted) (i + 1) bytes
-unfolding idled
-idle-on s from seen count i bytes m n h e before g =
-    rw (m, n) (same-trans (before g) (idle-same (idled s seen count) g i bytes refl refl h e))
+    → ((s .frame .part ≡ 0) × (s .frame .due ≡ 0)) ⊎ ((s .frame .part ≢ 0) × (getD bytes i 0 ≡ dueByte (seenOf seen count)))
+    → SameGrid s from (waiting s seen count) i bytes → SameGrid s from (waiting s more counted) (i + 1) bytes
+unfolding isQuiet applied
+between-on s from seen count i bytes m n h e free before g =
+    let d = between-step s seen count (getD bytes i 0) e free in
+    rw (m, n)
+    (same-trans (before g)
+    (record {
+      runs = run-quiet (waiting s seen count) g bytes i h (rw d) ∙ rw d;
+      long = refl;
+      later = omega arith;
+      inside = omega (arith, h);
+    }))

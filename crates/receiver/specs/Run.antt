@@ -1,6 +1,6 @@
 -- The bytes of a slice, one by one, in the code's terms. Assumes nothing.
 use mathlib.Core.Path.{_≡_}
-use mathlib.Core.Bool.{Bool, cond, _&&_}
+use mathlib.Core.Bool.{Bool, cond, not, _&&_}
 use lib.Dec.{eqb}
 use mathlib.Core.List.{List, [], _∷_}
 use Prim.Native.Nat.{ℕ, _+_, _≤_}
@@ -9,7 +9,7 @@ use Rattle.step.specs.Decide.{decide, applied, frame}
 use Rattle.step.specs.declared.state.Frame.{Frame}
 use Rattle.step.specs.declared.state.State.{State}
 use Rattle.step.specs.declared.state.Answer.the-variants.{Quiet}
-use Rattle.receiver.specs.Returned.{isQuiet}
+use Rattle.receiver.specs.Returned.{seenAfter, isQuiet}
 use Rattle.receiver.specs.declared.calls.Got.{Got}
 
 -- a call's result and its grid
@@ -44,14 +44,24 @@ paid s place check seen count =
       modes = s .modes;
     }
 
--- the state between parts: the bytes seen have moved on
-unfoldable pub idled : State → ℕ → ℕ → State
-idled s seen count = record { seen = seen; frame = frame 0 0 0 0 0 0 count; header = s .header; modes = s .modes }
+-- the state between texts: the bytes seen have moved on
+unfoldable pub waiting : State → ℕ → ℕ → State
+waiting s seen count =
+    record { seen = seen; frame = frame 0 0 0 (s .frame .part) (s .frame .due) 0 count; header = s .header; modes = s .modes }
 
 -- nothing is under way and no part is open
 unfoldable pub isIdle : Frame → Bool
 isIdle f =
     eqb (f .place) 0 && eqb (f .part) 0 && eqb (f .kind) 0 && eqb (f .picture) 0 && eqb (f .due) 0 && eqb (f .check) 0
+
+-- a part is open and none of its texts is under way
+unfoldable pub isGap : Frame → Bool
+isGap f =
+    eqb (f .place) 0 && not (eqb (f .part) 0) && eqb (f .kind) 0 && eqb (f .picture) 0 && eqb (f .check) 0
+
+-- the number that holds the bytes seen behind these, whatever was seen before
+abbrev pub SeenBehind : ℕ → List ℕ → Type 0
+SeenBehind r bytes = (v : ℕ) → r ≡ seenAfter v bytes
 
 -- the same, whatever the grid, which stays
 abbrev pub SameGrid : State → ℕ → State → ℕ → List ℕ → Type 0

@@ -155,7 +155,7 @@ pub fn slice_call(state: State, grid: &mut [u8], bytes: &[u8]) -> Got
         }
         s = next;
         let f = s.frame;
-        if (f.place == 3) | ((f.place == 0) & (f.part == 0)) {
+        if (f.place == 3) | (f.place == 0) {
             let on = past_stretch(s, grid, bytes, i);
             s = on.state;
             i = on.at;

@@ -2,5 +2,10 @@
 // Each call equals 01's receiver as `stream` defines it, for every state, grid and byte.
 
 pub mod grid; // clearing the grid, and what a byte does to it
-pub mod ahead; // stretches of payload, and of bytes between parts
+mod reach; // how far a stretch went
+mod tally; // the last bytes of a stretch, and its check byte
+mod between; // bytes between texts
+mod payload; // payload
+mod edges; // whole start and end texts
+mod ahead; // the stretches that the slice call takes at once
 pub mod calls; // fresh, the byte call and the slice call

@@ -23,18 +23,22 @@ block-most k =
     (λ _. by-if (λ n. n ≤ 2003) (eqb (partOf k) 3) (λ _. lit≤ tt) (λ _. lit≤ tt))))
     (λ _. by-if (λ n. n ≤ 2003) (isKind k) (λ _. lit≤ tt) (λ _. lit≤ tt))
 
-table : (k : ℕ) → k < 256
-    → (isStartKind k || (isEndKind k || (eqb (blockLength k) 0 || (leb 1 (textNumber k) && leb (textNumber k) 10)))) ≡ true
-unfolding blockLength dataBlockLength isDataKind isStartKind isEndKind isKind partOf textNumber kinds
-table =
-    same-tests 256
-    (λ k. isStartKind k || (isEndKind k || (eqb (blockLength k) 0 || (leb 1 (textNumber k) && leb (textNumber k) 10))))
-    (λ _. true) tt
+-- what a kind has that is neither a start nor an end kind
+abbrev dataFacts : ℕ → Bool
+dataFacts k = (leb 1 (textNumber k) && leb (textNumber k) 10) && (isDataKind k && leb 103 (blockLength k))
 
--- a kind that is neither a start nor an end kind has a data text's number
-pub data-number : (k : ℕ) → k < 256 → isStartKind k ≡ false → isEndKind k ≡ false → 3 < blockLength k
-    → (1 ≤ textNumber k) × (textNumber k ≤ 10)
-data-number k h s e l =
-    let none = ne-eqb (blockLength k) 0 (λ z. omega (arith, z, l)) in
-    let (one, ten) = and-split _ _ (or-right _ _ none (or-right _ _ e (or-right _ _ s (table k h)))) in
-    (leb-true _ _ one, leb-true _ _ ten)
+table : (k : ℕ) → k < 256 → (isStartKind k || (isEndKind k || (eqb (blockLength k) 0 || dataFacts k))) ≡ true
+unfolding blockLength dataBlockLength isDataKind isStartKind isEndKind isKind partOf textNumber kinds
+table = same-tests 256 (λ k. isStartKind k || (isEndKind k || (eqb (blockLength k) 0 || dataFacts k))) (λ _. true) tt
+
+module _ (k : ℕ) (h : k < 256) (s : isStartKind k ≡ false) (e : isEndKind k ≡ false) (l : 3 < blockLength k) where
+  facts : (leb 1 (textNumber k) && leb (textNumber k) 10 ≡ true) × (isDataKind k && leb 103 (blockLength k) ≡ true)
+  facts = and-split _ _ (or-right _ _ (ne-eqb (blockLength k) 0 (λ z. omega (arith, z, l))) (or-right _ _ e (or-right _ _ s (table k h))))
+
+  -- a data text's number
+  pub data-number : (1 ≤ textNumber k) × (textNumber k ≤ 10)
+  data-number = let (one, ten) = and-split _ _ (facts .0) in (leb-true _ _ one, leb-true _ _ ten)
+
+  -- a data kind, whose block has 103 bytes or more
+  pub data-kind : (isDataKind k ≡ true) × (103 ≤ blockLength k)
+  data-kind = let (is, long) = and-split _ _ (facts .1) in (is, leb-true _ _ long)

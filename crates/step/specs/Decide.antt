@@ -9,8 +9,9 @@ use Rattle.texts.specs.Text.{FD, EOR, TPAD}
 use Rattle.texts.specs.Pictures.{isPictureCode}
 use Rattle.texts.specs.Kinds.{isKind, isStartKind, isEndKind, partOf, textNumber, kindOf, blockLength}
 use Rattle.texts.specs.declared.header.Header.{Header}
+use Rattle.texts.specs.StartBlock.{blankHeader}
+use Rattle.texts.specs.EndBlock.{noModes}
 use Rattle.stream.specs.Seen.{endsOpening, dueByte}
-use Rattle.stream.specs.State.{blankHeader, noModes}
 use Rattle.stream.specs.Contents.{takesByte, begunHeader, enterHeader, enterModes}
 use Rattle.stream.specs.Receiver.{_⊕_, firstDue, nextDue, endsWell}
 use Rattle.step.specs.Meaning.{seenOf, pushSeen, pushCount}

@@ -16,7 +16,9 @@ use texts::codes::is_picture_code;
 use texts::header::Header;
 use texts::kinds::block_length;
 use texts::kinds::data_texts;
+use texts::kinds::is_end_kind;
 use texts::kinds::is_kind;
+use texts::kinds::is_start_kind;
 use texts::kinds::kind_of;
 use texts::kinds::part_of_kind;
 use texts::kinds::text_of_kind;
@@ -29,19 +31,6 @@ ghost use Rattle.texts.specs.Kinds.{isStartKind, isEndKind, textNumber, blockLe
 ghost use Rattle.stream.specs.Contents.{takesByte};
 ghost use Rattle.stream.specs.Receiver.{firstDue, nextDue, endsWell};
 ghost use Rattle.step.specs.Decide.{withinText, betweenTexts, droppedState, drops, quietly, openedText, gapDecided, pictureDecided, startingText, kindDecided, advanced, withHeader, withModes, enteredByte, blockDecided, eorDecided, checkDecided, lastDecided, textDecided, pushedState, decide};
-
-// Whether a byte is a start kind, whether it is an end kind. Notice 49, 4(1)(1-1)(d)(イ)
-pub fn is_start_kind(kind: u8) -> bool
-    ensures { λ r. ⌜ r ≡ isStartKind kind ⌝ }
-{
-    is_kind(kind) & (text_of_kind(kind) == 0)
-}
-
-pub fn is_end_kind(kind: u8) -> bool
-    ensures { λ r. ⌜ r ≡ isEndKind kind ⌝ }
-{
-    is_kind(kind) & (text_of_kind(kind) == 11)
-}
 
 // A state within a text: place, kind, picture code, check byte
 fn within_text(s: State, place: u16, kind: u8, picture: u8, check: u8) -> State

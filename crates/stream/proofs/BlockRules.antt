@@ -14,15 +14,14 @@ use Rattle.texts.specs.Bytes.{_!_, bit, isIn, every, allOf}
 use Rattle.texts.specs.Text.{FD}
 use Rattle.texts.specs.Pictures.{isPictureCode}
 use Rattle.texts.specs.Kinds.{isKind, isStartKind, isEndKind, isDataKind, partOf, textNumber, blockLength}
-use Rattle.texts.specs.StartBlock.{noEchoOf, modeOf, hasMode, isClockByte, clockOf, isTime, digitPlaces, stopPlaces, isDigit, digitsOf, isTimeText, timeTextOf, isRadarCode, follows, isRadarList, radarsOf, isStartBlock, headerOf}
+use Rattle.texts.specs.StartBlock.{noEchoOf, modeOf, hasMode, isClockByte, clockOf, isTime, digitPlaces, stopPlaces, isDigit, digitsOf, isTimeText, timeTextOf, isRadarCode, follows, isRadarList, radarsOf, isStartBlock, headerOf, blankHeader}
 use Rattle.texts.specs.DataBlock.{isPayloadByte, payloadOf, isDataBlock}
-use Rattle.texts.specs.EndBlock.{radarPlaces, isModeByte, isEndBlock, modesOf}
+use Rattle.texts.specs.EndBlock.{radarPlaces, isModeByte, isEndBlock, modesOf, noModes}
 use Rattle.texts.specs.declared.header.Header.{Header}
 use Rattle.texts.proofs.Tests.{places, by-place}
 use Rattle.texts.proofs.Radars.{radars-by-place}
 use Rattle.text_laws.proofs.Rules.{by-test, never, and-split, and-join, rule-at, every-at, every-in}
 use Rattle.text_laws.proofs.Blocks.{StartRules, start-rules, start-keeps, DataRules, data-rules, data-keeps, EndRules, end-rules, end-keeps}
-use Rattle.stream.specs.State.{blankHeader, noModes}
 use Rattle.stream.specs.Contents.{timeTakes, startTakes, begunHeader, enterHeader, endTakes, enterModes, enterGrid, takesByte}
 use Rattle.stream.proofs.Machine.{Eats, done, bite}
 use Rattle.stream.proofs.Instance.{Held, held, radar}
@@ -352,24 +351,25 @@ module _ (radars : List ℕ) (q k : ℕ) (xs : List ℕ) (hq : isPictureCode q �
       zero : (i : ℕ) → i < 21 → eqb (drop 8 (written xs) ! i) 0 ≡ true
       zero i l = every-at (λ b. eqb b 0) (drop 8 (written xs)) (r .zeros) i l
 
-  end-modes : endPuts noModes 3 (written xs) ≡ modesOf (FD ∷ q ∷ k ∷ written xs)
+  end-modes : (m : List ℕ) → length m ≡ 8 → endPuts m 3 (written xs) ≡ modesOf (FD ∷ q ∷ k ∷ written xs)
   unfolding endPuts enterModes modesOf
-  end-modes = refl
+  end-modes m l = ap (λ t. endPuts t 3 (written xs)) (by-place 8 m l)
 
--- An end block is taken exactly when it keeps its rules for the radars of the header, and the modes are then what it gives
-pub end-taken : (q k : ℕ) (h : Header) (g : List ℕ) (d : Held) (xs : List ℕ) → isPictureCode q ≡ true → isEndKind k ≡ true → length xs ≡ 29
-    → Eats radar k (held h noModes g) 3 xs d ↔ ((isEndBlock (h .radars) (FD ∷ q ∷ k ∷ xs) ≡ true) × (d ≡ held h (modesOf (FD ∷ q ∷ k ∷ xs)) g))
-end-taken q k h g d xs hq s l = (fro, to)
+-- An end block is taken exactly when it keeps its rules for the radars of the header, and the modes, whatever they were,
+-- are then what it gives
+pub end-taken : (q k : ℕ) (h : Header) (m g : List ℕ) (d : Held) (xs : List ℕ) → isPictureCode q ≡ true → isEndKind k ≡ true → length m ≡ 8 → length xs ≡ 29
+    → Eats radar k (held h m g) 3 xs d ↔ ((isEndBlock (h .radars) (FD ∷ q ∷ k ∷ xs) ≡ true) × (d ≡ held h (modesOf (FD ∷ q ∷ k ∷ xs)) g))
+end-taken q k h m g d xs hq s eight l = (fro, to)
   where
     e : xs ≡ written xs
     e = by-place 29 xs l
 
     c : Held
-    c = held h noModes g
+    c = held h m g
 
     holds : puts k c 3 xs ≡ held h (modesOf (FD ∷ q ∷ k ∷ xs)) g
     holds =
-        puts-end k s xs c 3 ∙ ap (λ m. held h m g) (ap (endPuts noModes 3) e ∙ end-modes (h .radars) q k xs hq s ∙ ap (λ t. modesOf (FD ∷ q ∷ k ∷ t)) (sym e))
+        puts-end k s xs c 3 ∙ ap (λ m. held h m g) (ap (endPuts m 3) e ∙ end-modes (h .radars) q k xs hq s m eight ∙ ap (λ t. modesOf (FD ∷ q ∷ k ∷ t)) (sym e))
 
     fro : Eats radar k c 3 xs d → (isEndBlock (h .radars) (FD ∷ q ∷ k ∷ xs) ≡ true) × (d ≡ held h (modesOf (FD ∷ q ∷ k ∷ xs)) g)
     fro r =

@@ -12,10 +12,10 @@ use Rattle.texts.specs.Bytes.{_!_, same}
 use Rattle.texts.specs.Text.{LPAD, SYN, DLE, STX, FD, EOR, TPAD, controlA, checkByte}
 use Rattle.stream.specs.Seen.{push, endsOpening, dueByte}
 use Rattle.stream.specs.Receiver.{_⊕_}
-use Rattle.stream.proofs.Machine.{Rules, Machine, Out, mk, say, new, opens, inGap, atKind, atLast, placed, move, run, Eats, done, bite, block, most, text, Open, begun, more}
-use Rattle.stream.proofs.Opening.{only-FD, pushes, seenOpening, seenKind}
-use Rattle.stream.proofs.Steps.{Laws, run-append}
-use Rattle.stream.proofs.WayBack.{checkAt3, kind-not-FD, block-run, take-picture, take-last, seenCheck, start-run}
+use Rattle.stream.proofs.Machine.{Rules, Machine, Out, mk, say, new, opens, inGap, atKind, atLast, placed, move, run, Quietly, still, hush, Eats, done, bite, block, most, text, Open, begun, more}
+use Rattle.stream.proofs.Opening.{only-FD, pushes, seenControl, seenOpening, seenKind}
+use Rattle.stream.proofs.Steps.{Laws, run-append, quiet-run}
+use Rattle.stream.proofs.WayBack.{checkAt3, kind-not-FD, block-quiet, take-picture, take-last, seenCheck, start-run}
 
 -- the due byte behind a text's last byte, and behind each byte of the opening
 pub due-control : (w : List ℕ)
@@ -77,6 +77,33 @@ module _ (R : Rules) (L : Laws R) where
   take-due p d q k c hp hk g h hq =
       rw (only-FD (push seenOpening q) k (kind-not-FD R L k g), g, h, ne-eqb p 0 hp, eq-eqb k (dueKind p d) hk, eq-eqb q (pictureOf c) hq)
 
+  -- a start kind, with no part open
+  pub take-begin : (q k : ℕ) (c : Held) → isStart k ≡ true
+      → move R (mk R (push seenOpening q) 2 0 q 0 0 (FD ⊕ q) c) k ≡ say R 0 (mk R (seenKind q k) 3 k q 0 0 (checkAt3 q k) (begin q c))
+  unfolding move placed atKind
+  take-begin q k c h =
+      let g : isKind k ≡ true = L .start-kind k h in
+      rw (only-FD (push seenOpening q) k (kind-not-FD R L k g), g, h)
+
+  -- a text from its `FD` to its check byte: a start text with no part open, and the due text
+  abbrev pub checkedBlock : ℕ → ℕ → List ℕ → List ℕ
+  checkedBlock q k xs = block R q k xs ++ (EOR ∷ checkByte (block R q k xs) ∷ [])
+
+  pub start-quiet : {q k : ℕ} {xs : List ℕ} {c e : Held} → isPicture q ≡ true → isStart k ≡ true → 3 + length xs ≡ long k → Eats R k (begin q c) 3 xs e
+      → Quietly R (mk R seenControl 0 0 0 0 0 0 c) (checkedBlock q k xs)
+      (mk R (seenCheck R L q k xs) (suc (suc (long k))) k q 0 0 (checkByte (block R q k xs)) e)
+  start-quiet {q} {k} {c} hq hk l r =
+      hush (take-opening 0 0 c) (hush (take-picture R L 0 0 q c hq) (hush (take-begin q k c hk) (block-quiet R L q 0 0 (L .start-kind k hk) l r)))
+
+  pub due-quiet : {k : ℕ} {xs : List ℕ} {c e : Held} (p d : ℕ) → p ≢ 0 → isPicture (pictureOf c) ≡ true → k ≡ dueKind p d → isKind k ≡ true → isStart k ≡ false
+      → 3 + length xs ≡ long k → Eats R k c 3 xs e
+      → let q = pictureOf c in
+      Quietly R (mk R seenControl 0 0 0 p d 0 c) (checkedBlock q k xs)
+      (mk R (seenCheck R L q k xs) (suc (suc (long k))) k q p d (checkByte (block R q k xs)) e)
+  due-quiet {k} {c} p d hp hq hk g n l r =
+      let q = pictureOf c in
+      hush (take-opening p d c) (hush (take-picture R L p d q c hq) (hush (take-due p d q k c hp hk g n refl) (block-quiet R L q p d g l r)))
+
   -- a due text, up to its last byte
   pub due-run : {k : ℕ} {c e : Held} {xs : List ℕ} (w : List ℕ) (p d : ℕ) → p ≢ 0 → isPicture (pictureOf c) ≡ true → k ≡ dueKind p d → isKind k ≡ true → isStart k ≡ false
       → 3 + length xs ≡ long k → Eats R k c 3 xs e
@@ -92,7 +119,7 @@ module _ (R : Rules) (L : Laws R) where
       ∙ ap (λ t. run R t (q ∷ k ∷ (xs ++ (EOR ∷ z ∷ [])))) (gap-run w p d c hp)
       ∙ ap (λ o. run R (o .machine) (k ∷ (xs ++ (EOR ∷ z ∷ [])))) (take-picture R L p d q c hq)
       ∙ ap (λ o. run R (o .machine) (xs ++ (EOR ∷ z ∷ []))) (take-due p d q k c hp hk g n refl)
-      ∙ block-run R L q p d g l r)
+      ∙ quiet-run R (block-quiet R L q p d g l r))
       ∙ take-last R L (seenCheck R L q k xs) k q p d z e (L .long-3 k g)
 
   -- the texts of an open part

@@ -12,15 +12,15 @@ use Rattle.texts.specs.Bytes.{_!_, bit, isIn}
 use Rattle.texts.specs.Text.{STX, FD, EOR, TPAD, SYN}
 use Rattle.texts.specs.Pictures.{isPictureCode, pictureCodes}
 use Rattle.texts.specs.Kinds.{kinds, isPartNumber, isKind, isStartKind, isEndKind, isDataKind, partOf, textNumber, kindOf, blockLength, dataBlockLength}
-use Rattle.texts.specs.StartBlock.{modeOf, hasMode, isClockByte, stopPlaces, isDigit, radarCodes, isRadarCode, follows}
+use Rattle.texts.specs.StartBlock.{modeOf, hasMode, isClockByte, stopPlaces, isDigit, radarCodes, isRadarCode, follows, blankHeader}
 use Rattle.texts.specs.DataBlock.{isPayloadByte}
-use Rattle.texts.specs.EndBlock.{isModeByte}
+use Rattle.texts.specs.EndBlock.{isModeByte, noModes}
 use Rattle.texts.specs.declared.header.Header.{Header}
 use Rattle.text_laws.proofs.Rules.{by-test, never, and-split}
 use Rattle.text_laws.proofs.KindTable.{kind-part, start-is-kind}
 use Rattle.text_laws.proofs.Payload.{payload-below}
 use Rattle.stream.specs.Seen.{push, endsOpening, dueByte}
-use Rattle.stream.specs.State.{State, dropped, blankHeader, noModes, emptyGrid}
+use Rattle.stream.specs.State.{State, dropped, emptyGrid}
 use Rattle.stream.specs.Contents.{timeTakes, startTakes, begunHeader, enterHeader, endTakes, enterModes, enterGrid, takesByte}
 use Rattle.stream.specs.Receiver.{_⊕_, Step, answers, drops, opened, gapByte, pictureByte, kindByte, blockByte, eorByte, checkedByte, firstDue, nextDue, endsWell, lastByte, placedByte, step}
 use Rattle.stream.proofs.Machine.{Rules, Machine, Out, mk, say, opens, inGap, atPicture, atKind, inBlock, atEor, atCheck, atLast, placed, move, run, Eats, done, bite}

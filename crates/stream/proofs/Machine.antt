@@ -132,6 +132,11 @@ module _ (R : Rules) where
   run m [] = m
   run m (b ∷ bytes) = run (move m b .machine) bytes
 
+  -- bytes that are all answered 0, and the machine behind them
+  pub data Quietly : Machine → List ℕ → Machine → Type 0 where
+    still : {m : Machine} → Quietly m [] m
+    hush : {m n o : Machine} {b : ℕ} {bytes : List ℕ} → move m b ≡ say 0 n → Quietly n bytes o → Quietly m (b ∷ bytes) o
+
   -- the contents of a block, from byte i on: each byte keeps its rule, and what is held follows
   pub data Eats (k : ℕ) : Held → ℕ → List ℕ → Held → Type 0 where
     done : {c : Held} {i : ℕ} → Eats k c i [] c

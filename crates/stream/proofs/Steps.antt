@@ -15,7 +15,7 @@ use Rattle.texts.specs.Text.{LPAD, SYN, DLE, STX, FD, EOR, TPAD, controlA, xorA
 use Rattle.texts.proofs.Xor.{xor-assoc, xor-cancel-left, xor-cancel-right, xorAll-append}
 use Rattle.stream.specs.Seen.{push, endsOpening, dueByte}
 use Rattle.stream.specs.Receiver.{_⊕_}
-use Rattle.stream.proofs.Machine.{Rules, Machine, Out, mk, say, lost, new, opens, inGap, atPicture, begins, atKind, inBlock, atEor, atCheck, atLast, placed, move, run, Eats, done, bite, block, most, text}
+use Rattle.stream.proofs.Machine.{Rules, Machine, Out, mk, say, lost, new, opens, inGap, atPicture, begins, atKind, inBlock, atEor, atCheck, atLast, placed, move, run, Quietly, still, hush, Eats, done, bite, block, most, text}
 use Rattle.stream.proofs.Opening.{by-if, only-FD, only-STX}
 
 -- the running check byte
@@ -76,6 +76,15 @@ module _ (R : Rules) where
   unfolding run
   run-append m [] ys = refl
   run-append m (x ∷ xs) ys = run-append (move R m x .machine) xs ys
+
+  pub quiet-run : {m n : Machine R} {xs : List ℕ} → Quietly R m xs n → run R m xs ≡ n
+  unfolding run
+  quiet-run still = refl
+  quiet-run (hush {bytes = xs} e r) = ap (λ o. run R (o .machine) xs) e ∙ quiet-run r
+
+  pub quiet-append : {m n o : Machine R} {xs ys : List ℕ} → Quietly R m xs n → Quietly R n ys o → Quietly R m (xs ++ ys) o
+  quiet-append still q = q
+  quiet-append (hush e r) q = hush e (quiet-append r q)
 
   -- every move sees its byte
   pub move-seen : (m : Machine R) (b : ℕ) → move R m b .machine .seen ≡ push (m .seen) b

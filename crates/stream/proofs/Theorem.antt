@@ -13,10 +13,11 @@ use Rattle.texts.specs.Bytes.{_!_}
 use Rattle.texts.specs.Text.{FD, EOR, TPAD, controlA, checkByte, textOf}
 use Rattle.texts.specs.StartBlock.{isStartBlock, headerOf}
 use Rattle.texts.specs.Part.{StartText, UndamagedPart, AlteredTo, partHeader, partModes, gridOf}
+use Rattle.texts.specs.EndBlock.{noModes}
 use Rattle.text_laws.proofs.Rules.{by-test}
 use Rattle.text_laws.proofs.Framing.{text-length}
 use Rattle.text_laws.proofs.Blocks.{StartRules, start-rules}
-use Rattle.stream.specs.State.{State, fresh, emptyGrid, noModes}
+use Rattle.stream.specs.State.{State, fresh, emptyGrid}
 use Rattle.stream.specs.Receiver.{Step, step}
 use Rattle.stream.specs.Calls.{byte, Call, onGrid, received, singly, answersOf, stateAfter, gridAfter}
 use Rattle.stream.specs.Demand3.{EndsUndamaged, WayBack, Demand3}

@@ -1,5 +1,5 @@
 -- A start text leads every machine, from whatever state, to the same state: the way back. Assumes nothing.
-use mathlib.Core.Path.{_≡_, refl, sym, ap, ap₂, _∙_, subst}
+use mathlib.Core.Path.{_≡_, refl, sym, ap, ap₂, _∙_, subst, subst₂}
 use mathlib.Core.Logic.{_≢_}
 use mathlib.Core.Bool.{Bool, true, false, cond, not, true≢false}
 use mathlib.Core.List.{List, [], _∷_, _++_, append-assoc}
@@ -13,9 +13,9 @@ use Rattle.texts.specs.Text.{LPAD, SYN, DLE, STX, FD, EOR, TPAD, controlA, xorA
 use Rattle.text_laws.proofs.Rules.{by-test, never}
 use Rattle.stream.specs.Seen.{push, endsOpening}
 use Rattle.stream.specs.Receiver.{_⊕_}
-use Rattle.stream.proofs.Machine.{Rules, Machine, Out, mk, say, lost, new, opens, atPicture, atKind, inBlock, atEor, atCheck, atLast, placed, move, run, Eats, done, bite, block, most, text}
+use Rattle.stream.proofs.Machine.{Rules, Machine, Out, mk, say, lost, new, opens, atPicture, atKind, inBlock, atEor, atCheck, atLast, placed, move, run, Quietly, still, hush, Eats, done, bite, block, most, text}
 use Rattle.stream.proofs.Opening.{by-if, only-FD, only-STX, control-opens, pushes, seenControl, seenOpening, seenKind}
-use Rattle.stream.proofs.Steps.{Laws, xor-cons, xor-nil, check-is, run-append, move-seen, move-block, move-eor, move-check, move-last}
+use Rattle.stream.proofs.Steps.{Laws, xor-cons, xor-nil, check-is, run-append, quiet-run, quiet-append, move-seen, move-block, move-eor, move-check, move-last}
 
 -- the check byte of a block, as it runs on from its first three bytes
 abbrev pub checkAt3 : ℕ → ℕ → ℕ
@@ -44,18 +44,17 @@ module _ (R : Rules) (L : Laws R) where
   take-byte w i k q p d x c b n a l h = move-block R w i k q p d x c b n a l ∙ rw h
 
   -- the bytes of a block from byte i on
-  pub body-run : {k : ℕ} {c e : Held} {i : ℕ} {xs : List ℕ} (q p d x y : ℕ) (w : List ℕ) → Eats R k c i xs e → 3 ≤ i → i + length xs ≤ long k
+  pub body-quiet : {k : ℕ} {c e : Held} {i : ℕ} {xs : List ℕ} (q p d x y : ℕ) (w : List ℕ) → Eats R k c i xs e → 3 ≤ i → i + length xs ≤ long k
       → (takes k c i FD ≡ true → y ≢ STX)
-      → run R (mk R (y ∷ w) i k q p d x c) xs ≡ mk R (pushes (y ∷ w) xs) (i + length xs) k q p d (x ⊕ xorAll xs) e
-  unfolding run
-  body-run {k} {c} {i} q p d x y w done h l f = rw (add-zero i, xor-nil x)
-  body-run {k} {e} {i} q p d x y w (bite {c} {x = b} {xs} g r) h l f =
+      → Quietly R (mk R (y ∷ w) i k q p d x c) xs (mk R (pushes (y ∷ w) xs) (i + length xs) k q p d (x ⊕ xorAll xs) e)
+  body-quiet {k} {c} {i} q p d x y w done h l f = rw (add-zero i, xor-nil x) still
+  body-quiet {k} {e} {i} q p d x y w (bite {c} {x = b} {xs} g r) h l f =
       let shut : endsOpening (y ∷ w) b ≡ false =
       by-test (eqb b FD) (λ t. only-STX y w b (f (subst (λ v. takes k c i v ≡ true) (eqb-true b FD t) g))) (λ t. only-FD (y ∷ w) b (eqb-false b FD t)) in
       let far : suc i + length xs ≡ i + suc (length xs) = omega arith in
-      ap (λ o. run R (o .machine) xs) (take-byte (y ∷ w) i k q p d x c b shut h (omega arith) g)
-      ∙ body-run q p d (x ⊕ b) b (take 4 (y ∷ w)) r (omega arith) (omega arith) (λ t s. never (L .fd-after k i c (subst (λ v. takes k c i v ≡ true) s g)) (subst (λ v. takes k (enter k c i v) (suc i) FD ≡ true) s t))
-      ∙ ap₂ (λ n z. mk R (pushes (push (y ∷ w) b) xs) n k q p d z e) far (xor-cons x b xs)
+      hush (take-byte (y ∷ w) i k q p d x c b shut h (omega arith) g)
+      (subst₂ (λ n z. Quietly R (mk R (push (y ∷ w) b) (suc i) k q p d (x ⊕ b) (enter k c i b)) xs (mk R (pushes (push (y ∷ w) b) xs) n k q p d z e)) far (xor-cons x b xs)
+      (body-quiet q p d (x ⊕ b) b (take 4 (y ∷ w)) r (omega arith) (omega arith) (λ t s. never (L .fd-after k i c (subst (λ v. takes k c i v ≡ true) s g)) (subst (λ v. takes k (enter k c i v) (suc i) FD ≡ true) s t))))
 
   -- EOR and check byte
   pub take-eor : (w : List ℕ) (k q p d x : ℕ) (c : Held) → 3 ≤ long k
@@ -74,18 +73,17 @@ module _ (R : Rules) (L : Laws R) where
   seenCheck q k xs = push (push (pushes (seenKind q k) xs) EOR) (checkByte (FD ∷ q ∷ k ∷ xs))
 
   -- from the kind to the last byte but one
-  pub block-run : {k : ℕ} {c e : Held} {xs : List ℕ} (q p d : ℕ) → isKind k ≡ true → 3 + length xs ≡ long k → Eats R k c 3 xs e
-      → run R (mk R (seenKind q k) 3 k q p d (checkAt3 q k) c) (xs ++ (EOR ∷ checkByte (FD ∷ q ∷ k ∷ xs) ∷ []))
-      ≡ mk R (seenCheck q k xs) (suc (suc (long k))) k q p d (checkByte (FD ∷ q ∷ k ∷ xs)) e
-  unfolding run
-  block-run {k} {c} {e} {xs} q p d hk l r =
+  pub block-quiet : {k : ℕ} {c e : Held} {xs : List ℕ} (q p d : ℕ) → isKind k ≡ true → 3 + length xs ≡ long k → Eats R k c 3 xs e
+      → Quietly R (mk R (seenKind q k) 3 k q p d (checkAt3 q k) c) (xs ++ (EOR ∷ checkByte (FD ∷ q ∷ k ∷ xs) ∷ []))
+      (mk R (seenCheck q k xs) (suc (suc (long k))) k q p d (checkByte (FD ∷ q ∷ k ∷ xs)) e)
+  block-quiet {k} {c} {e} {xs} q p d hk l r =
       let z = checkByte (FD ∷ q ∷ k ∷ xs) in
-      run-append R _ xs _
-      ∙ ap (λ m. run R m (EOR ∷ z ∷ [])) (body-run q p d (checkAt3 q k) k _ r (omega arith) (omega arith) (λ t. never (L .fd-first k c hk) t))
-      ∙ ap (λ n. run R (mk R (pushes (seenKind q k) xs) n k q p d (checkAt3 q k ⊕ xorAll xs) e) (EOR ∷ z ∷ [])) l
-      ∙ ap (λ o. run R (o .machine) (z ∷ [])) (take-eor (pushes (seenKind q k) xs) k q p d (checkAt3 q k ⊕ xorAll xs) e (L .long-3 k hk))
-      ∙ ap (λ x. run R (mk R (push (pushes (seenKind q k) xs) EOR) (suc (long k)) k q p d x e) (z ∷ [])) (checked q k xs)
-      ∙ ap (λ o. o .machine) (take-check (take 4 (pushes (seenKind q k) xs)) k q p d z e (L .long-3 k hk))
+      let w = pushes (seenKind q k) xs in
+      quiet-append R
+      (subst₂ (λ n y. Quietly R (mk R (seenKind q k) 3 k q p d (checkAt3 q k) c) xs (mk R w n k q p d y e)) l refl
+      (body-quiet q p d (checkAt3 q k) k _ r (omega arith) (omega arith) (λ t. never (L .fd-first k c hk) t)))
+      (hush (take-eor w k q p d (checkAt3 q k ⊕ xorAll xs) e (L .long-3 k hk) ∙ ap (λ x. say R 0 (mk R (push w EOR) (suc (long k)) k q p d x e)) (checked q k xs))
+      (hush (take-check (take 4 w) k q p d z e (L .long-3 k hk)) still))
 
   -- the opening, from any state
   open-from : (m : Machine R) → m .seen ≡ seenControl → (p : ℕ) × (d : ℕ) × (c : Held) × (move R m FD .machine ≡ mk R seenOpening 1 0 0 p d FD c)
@@ -134,7 +132,7 @@ module _ (R : Rules) (L : Laws R) where
       ∙ ap (λ t. run R t (q ∷ k ∷ (xs ++ (EOR ∷ z ∷ [])))) (o .3)
       ∙ ap (λ t. run R (t .machine) (k ∷ (xs ++ (EOR ∷ z ∷ [])))) (take-picture (o .0) (o .1) q (o .2) hq)
       ∙ ap (λ t. run R (t .machine) (xs ++ (EOR ∷ z ∷ []))) (g .2)
-      ∙ block-run q 0 0 known l (b .1))
+      ∙ quiet-run R (block-quiet q 0 0 known l (b .1)))
       ∙ take-last (seenCheck q k xs) k q 0 0 z (b .0) (L .long-3 k known)
       ∙ rw hk (ap₂ (λ x y. say R 1 (mk R (push (seenCheck q k xs) TPAD) 0 0 0 (partOf k) x 0 y)) (sym (b .3)) (sym (b .2)))
 

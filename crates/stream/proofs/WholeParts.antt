@@ -16,14 +16,14 @@ use Rattle.texts.specs.Pictures.{isPictureCode}
 use Rattle.texts.specs.Kinds.{isKind, isStartKind, isEndKind, isDataKind, partOf, textNumber, kindOf, blockLength, dataBlockLength, dataTexts}
 use Rattle.texts.specs.StartBlock.{noEchoOf, modeOf, radarsOf, isStartBlock, headerOf}
 use Rattle.texts.specs.DataBlock.{isPayloadByte, payloadOf, isDataBlock}
-use Rattle.texts.specs.EndBlock.{isEndBlock, modesOf, highest}
+use Rattle.texts.specs.EndBlock.{isEndBlock, modesOf, highest, noModes}
 use Rattle.texts.specs.Part.{Part, textsOf, partBytes, isTextOf, inOrder, startPart, dataTextsAfter, isPart, UndamagedPart, gridLength, payloadsOf, zeros, gridOf, partHeader, partModes}
 use Rattle.texts.specs.declared.header.Header.{Header}
 use Rattle.text_laws.proofs.Rules.{by-test, never, and-split, and-join}
 use Rattle.text_laws.proofs.KindTable.{text-back, data-is-kind, end-is-kind, data-block-length}
 use Rattle.text_laws.proofs.Blocks.{StartRules, start-rules, DataRules, data-rules, data-keeps, EndRules, end-rules, PartRules, part-rules, part-keeps}
 use Rattle.text_laws.proofs.Parts.{Sized, data-sized, payloads-length, payload-fits, order-split}
-use Rattle.stream.specs.State.{noModes, emptyGrid}
+use Rattle.stream.specs.State.{emptyGrid}
 use Rattle.stream.specs.Receiver.{firstDue, nextDue, endsWell}
 use Rattle.stream.proofs.Machine.{Eats, block, most, text, Open, begun, more, Whole, whole}
 use Rattle.stream.proofs.Opening.{by-if}
@@ -340,7 +340,7 @@ whole-undamaged (whole {ys} {p} {d} {k} {xs} {c} {e} o hq hk g n v l r z) = go (
         picture = ap (λ (x : Held). x .header .picture) (a .holds) ∙ header-facts (a .start) .1
 
         taken : (isEndBlock (headerOf (a .start) .radars) b ≡ true) × (e ≡ held (headerOf (a .start)) (modesOf b) (gridWith (a .datas)))
-        taken = end-taken (c .header .picture) k (headerOf (a .start)) (gridWith (a .datas)) e xs hq v long .0 (subst (λ (t : Held). Eats radar k t 3 xs e) (a .holds) r)
+        taken = end-taken (c .header .picture) k (headerOf (a .start)) noModes (gridWith (a .datas)) e xs hq v refl long .0 (subst (λ (t : Held). Eats radar k t 3 xs e) (a .holds) r)
 
         modes : modeOf (a .start ! 5) ≡ highest (modesOf b)
         modes = sym (header-facts (a .start) .3) ∙ well-is (headerOf (a .start)) (modesOf b) (subst (λ (t : Held). endsWell (t .header) (t .modes) ≡ true) (taken .1) z)
@@ -514,7 +514,7 @@ undamaged-whole {zs} u =
 
     eaten : Eats radar k (held (headerOf (p .start)) noModes (gridWith (p .datas))) 3 xs (heldOf p)
     eaten =
-        end-taken q k (headerOf (p .start)) (gridWith (p .datas)) (heldOf p) xs (subst (λ x. isPictureCode x ≡ true) (r .endPicture) (er .picture)) (er .kind) long .1 (
+        end-taken q k (headerOf (p .start)) noModes (gridWith (p .datas)) (heldOf p) xs (subst (λ x. isPictureCode x ≡ true) (r .endPicture) (er .picture)) (er .kind) refl long .1 (
           subst₂ (λ a b. isEndBlock a b ≡ true) (sym (header-facts (p .start) .2)) split (r .end),
           ap₂ (λ m g. held (headerOf (p .start)) m g) (ap modesOf split) (grid-of p),
         )

@@ -6,11 +6,10 @@ use lib.Dec.{eqb, leb}
 use lib.ListN.{set}
 use Rattle.texts.specs.Bytes.{_!_, isIn}
 use Rattle.texts.specs.Kinds.{partOf, textNumber, isStartKind, isEndKind}
-use Rattle.texts.specs.StartBlock.{noEchoOf, modeOf, hasMode, isClockByte, clockOf, digitPlaces, stopPlaces, isDigit, isTime, isRadarCode, follows}
+use Rattle.texts.specs.StartBlock.{noEchoOf, modeOf, hasMode, isClockByte, clockOf, digitPlaces, stopPlaces, isDigit, isTime, isRadarCode, follows, blankHeader}
 use Rattle.texts.specs.DataBlock.{isPayloadByte}
 use Rattle.texts.specs.EndBlock.{isModeByte}
 use Rattle.texts.specs.declared.header.Header.{Header}
-use Rattle.stream.specs.State.{blankHeader}
 
 -- ---- the start block, Notice 49, 4(1)(1-1)(c)(イ) and (d)(イ)
 

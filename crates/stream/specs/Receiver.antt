@@ -7,10 +7,10 @@ use lib.Dec.{eqb, ltb}
 use Rattle.texts.specs.Text.{FD, EOR, TPAD}
 use Rattle.texts.specs.Pictures.{isPictureCode}
 use Rattle.texts.specs.Kinds.{isKind, isStartKind, isEndKind, partOf, textNumber, kindOf, blockLength, dataTexts}
-use Rattle.texts.specs.EndBlock.{highest}
+use Rattle.texts.specs.EndBlock.{highest, noModes}
 use Rattle.texts.specs.declared.header.Header.{Header}
 use Rattle.stream.specs.Seen.{push, endsOpening, dueByte}
-use Rattle.stream.specs.State.{State, dropped, noModes, emptyGrid}
+use Rattle.stream.specs.State.{State, dropped, emptyGrid}
 use Rattle.stream.specs.Contents.{takesByte, begunHeader, enterHeader, enterModes, enterGrid}
 
 -- the exclusive or of two bytes

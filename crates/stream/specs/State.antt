@@ -7,6 +7,8 @@ use lib.ListN.{length}
 use Rattle.texts.specs.Bytes.{allOf}
 use Rattle.texts.specs.Pictures.{isPictureCode}
 use Rattle.texts.specs.Kinds.{isKind, isStartKind, kindOf, blockLength, isPartNumber}
+use Rattle.texts.specs.StartBlock.{blankHeader}
+use Rattle.texts.specs.EndBlock.{noModes}
 use Rattle.texts.specs.Part.{zeros, gridLength}
 use Rattle.texts.specs.declared.header.Header.{Header}
 
@@ -27,21 +29,6 @@ pub record State : Type 0 where
   pub check : ℕ
   pub header : Header
   pub modes : List ℕ
-
--- a header, and modes, all 0
-abbrev pub noModes : List ℕ
-noModes = 0 ∷ 0 ∷ 0 ∷ 0 ∷ 0 ∷ 0 ∷ 0 ∷ 0 ∷ []
-
-abbrev pub blankHeader : Header
-blankHeader =
-    record {
-      time = 0 ∷ 0 ∷ 0 ∷ 0 ∷ 0 ∷ 0 ∷ 0 ∷ 0 ∷ 0 ∷ 0 ∷ 0 ∷ 0 ∷ [];
-      radars = 0 ∷ 0 ∷ 0 ∷ 0 ∷ 0 ∷ 0 ∷ 0 ∷ 0 ∷ [];
-      clock = 0;
-      picture = 0;
-      mode = 0;
-      noecho = false;
-    }
 
 -- the grid, all 0
 abbrev pub emptyGrid : List ℕ

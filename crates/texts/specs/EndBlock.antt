@@ -36,6 +36,10 @@ isEndBlock radars block =
 unfoldable pub modesOf : List ℕ → List ℕ
 modesOf block = map (λ i. modeOf (block ! (3 + i))) radarPlaces
 
+-- modes, all 0
+abbrev pub noModes : List ℕ
+noModes = 0 ∷ 0 ∷ 0 ∷ 0 ∷ 0 ∷ 0 ∷ 0 ∷ 0 ∷ []
+
 -- The highest of these modes. Notice 49, 4(1)(1-1)(d)(イ)
 unfoldable pub highest : List ℕ → ℕ
 highest [] = 0

@@ -148,3 +148,15 @@ headerOf block =
       mode = modeOf (block ! 5);
       noecho = noEchoOf (block ! 4);
     }
+
+-- a header, all 0
+abbrev pub blankHeader : Header
+blankHeader =
+    record {
+      time = 0 ∷ 0 ∷ 0 ∷ 0 ∷ 0 ∷ 0 ∷ 0 ∷ 0 ∷ 0 ∷ 0 ∷ 0 ∷ 0 ∷ [];
+      radars = 0 ∷ 0 ∷ 0 ∷ 0 ∷ 0 ∷ 0 ∷ 0 ∷ 0 ∷ [];
+      clock = 0;
+      picture = 0;
+      mode = 0;
+      noecho = false;
+    }

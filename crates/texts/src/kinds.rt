@@ -2,7 +2,7 @@
 // A part is 1 (intensity), 2 (echo top) or 3 (quality). A text's number within its part is 0 for
 // the start text, k for data text k and 11 for the end text.
 ghost use mathlib.Core.Path.{_≡_};
-ghost use Rattle.texts.specs.Kinds.{isKind, partOf, textNumber, kindOf, blockLength, dataBlockLength, dataTexts, partLength, payloadLength};
+ghost use Rattle.texts.specs.Kinds.{isKind, isStartKind, isEndKind, partOf, textNumber, kindOf, blockLength, dataBlockLength, dataTexts, partLength, payloadLength};
 
 // Whether a byte is one of the 18 kinds. Notice 49, 4(1)(1-1)(d)(イ) and (ウ)
 pub fn is_kind(b: u8) -> bool
@@ -31,6 +31,19 @@ pub fn text_of_kind(b: u8) -> u8
     } else {
         0
     }
+}
+
+// Whether a byte is a start kind, whether it is an end kind. Notice 49, 4(1)(1-1)(d)(イ)
+pub fn is_start_kind(kind: u8) -> bool
+    ensures { λ r. ⌜ r ≡ isStartKind kind ⌝ }
+{
+    is_kind(kind) & (text_of_kind(kind) == 0)
+}
+
+pub fn is_end_kind(kind: u8) -> bool
+    ensures { λ r. ⌜ r ≡ isEndKind kind ⌝ }
+{
+    is_kind(kind) & (text_of_kind(kind) == 11)
 }
 
 // The kind of text `text` of part `part`; 0 where there is none. Notice 49, 4(1)(1-1)(d)(イ) and (ウ)

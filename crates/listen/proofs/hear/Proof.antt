@@ -1,17 +1,17 @@
--- Each turn takes a byte at least, and stays within the bytes. Assumes nothing.
-use mathlib.Core.Path.{_≡_, refl, _∙_}
+-- Each turn takes a byte at least and stays within the bytes; grid and output keep their lengths, and no more waits than the output holds. Assumes nothing.
+use mathlib.Core.Path.{_≡_}
 use Prim.Native.Nat.{_≤_, _-_}
-use native.Mathlib.Omega.{arith}
 use lib.ListN.{length}
 use borrow.Author.Needs.{needs}
 use Rattle.listen.proofs.hear.Statement.{statement}
 use Rattle.listen.proofs.hear.Tie as tie
 
 abbrev Inv-loop : tie.InvT-loop
-Inv-loop total grid₀ bytes s₀ at₀ grid s at = (at ≤ length bytes) × (length grid ≡ length grid₀)
+Inv-loop total grid₀ bytes out₀ s₀ at₀ used₀ grid out s at used =
+    (at ≤ length bytes) × (length grid ≡ length grid₀) × (length out ≡ length out₀) × (used ≤ length out₀)
 
 abbrev μ-loop : tie.MeasureT-loop
-μ-loop total grid₀ bytes s₀ at₀ grid s at = length bytes - at
+μ-loop total grid₀ bytes out₀ s₀ at₀ used₀ grid out s at used = length bytes - at
 
 pub hear-spec : {M : Type 1} → statement M
 hear-spec =
@@ -19,24 +19,25 @@ hear-spec =
     (tie.spec
     Inv-loop
     μ-loop
-    (λ c. (search needs, refl))
+    (λ c. search needs)
     (λ c. search needs)
     (λ c. search needs)
     (λ c. search needs)
     (λ c κs. search needs)
-    (λ c. omega (arith, c .before .before .before .before .before .loop-test .taken))
-    (λ c. c .before .before .before .slice-call .kept .1 .0 ∙ c .before .before .before .before .before .before .before .loop .inv .1)
     (λ c. search needs)
-    (λ c. c .before .before .before .before .slice-call .kept .1 .0 ∙ c .before .before .before .before .before .before .before .before .loop .inv .1)
+    (λ c κs. search needs)
+    (λ c κs. search needs)
     (λ c. search needs)
-    (λ c. omega (arith, c .before .before .before .before .before .before .before .before .before .before .before .good, c .if2 .left, c .before .before .before .before .before .before .before .before .loop .inv .0))
+    (λ c. search needs)
+    (λ c. search needs)
+    (λ c. search needs)
     (λ c κs. search needs)
     (λ c κs. search needs)
     (λ c κs. search needs)
-    (λ c. omega (arith, c .before .before .before .before .before .if2 .left, c .before .before .before .before .before .before .if1 .left, c .before .before .before .before .before .before .before .before .before .before .before .before .loop-test .taken))
-    (λ c. (omega (arith, c .before .before .before .before .before .if2 .left, c .before .before .before .before .before .before .before .before .before .before .before .before .before .loop .inv .0), c .before .before .before .before .before .before .before .before .before .slice-call .kept .1 .0 ∙ c .before .before .before .before .before .before .before .before .before .before .before .before .before .loop .inv .1))
-    (λ c. omega (arith, c .before .before .before .if2 .left, c .before .before .before .before .if1 .left, c .before .before .before .before .before .before .before .before .before .before .loop-test .taken))
-    (λ c. (omega (arith, c .before .before .before .if2 .left, c .before .before .before .before .before .before .before .before .before .before .before .loop .inv .0), c .before .before .before .before .before .before .before .slice-call .kept .1 .0 ∙ c .before .before .before .before .before .before .before .before .before .before .before .loop .inv .1))
+    (λ c. search needs)
+    (λ c. search needs)
     (λ c κs. search needs)
-    (λ c. c .before .before .loop .inv .1)
+    (λ c κs. search needs)
+    (λ c. search needs)
+    (λ c. search needs)
     (λ c. search needs))

@@ -2,26 +2,38 @@
 use mathlib.Core.Path.{sym, _∙_}
 use native.Mathlib.Omega.{arith}
 use borrow.Author.Needs.{needs}
-use Rattle.receiver.proofs.Runs.{same-here}
+use Rattle.receiver.proofs.Runs.{same-here, same-trans}
 use Rattle.receiver.proofs.ahead.past_stretch.Statement.{statement}
 use Rattle.receiver.proofs.ahead.past_stretch.Tie as tie
 
 idle-run-requires : tie.Need-idle-run-requires
 idle-run-requires c κs = (sym (c .before .is-idle .ensures) ∙ c .if1 .taken, c .before .before .before .before .before .pre .0)
 
-returns : tie.Need-returns
-returns c = c .idle-run .ensures (c .before .before .before .before .before .before .args .grid .now)
+text-ahead-requires : tie.Need-text-ahead-requires
+text-ahead-requires c κs = c .before .idle-run .ensures (c .before .before .before .before .before .before .before .args .grid .now) .inside
 
-payload-run-requires : tie.Need-payload-run-requires
-payload-run-requires c κs =
-    let start = c .before .before .before .before .before .before .before .before .before .before .before .before .before .before .before in
+returns : tie.Need-returns
+returns c = let g = c .before .before .before .before .before .before .before .before .args .grid .now in same-trans (c .before .before .idle-run .ensures g) (c .text-ahead .ensures g)
+
+gap-run-requires : tie.Need-gap-run-requires
+gap-run-requires c κs = (sym (c .before .is-gap .ensures) ∙ c .if2 .taken, c .before .before .before .before .before .before .before .pre .0)
+
+text-ahead-requires-2 : tie.Need-text-ahead-requires-2
+text-ahead-requires-2 c κs = c .before .gap-run .ensures (c .before .before .before .before .before .before .before .before .before .args .grid .now) .inside
+
+returns-2 : tie.Need-returns-2
+returns-2 c = let g = c .before .before .before .before .before .before .before .before .before .before .args .grid .now in same-trans (c .before .before .gap-run .ensures g) (c .text-ahead2 .ensures g)
+
+payload-ahead-requires : tie.Need-payload-ahead-requires
+payload-ahead-requires c κs =
+    let start = c .before .before .before .before .before .before .before .before .before .before .before .before .before .before .before .before .before in
     let long = c .before .before .before .before .before in (
-      sym (c .before .before .before .before .is-start-kind .ensures) ∙ c .before .before .before .if4 .left,
+      sym (c .before .before .before .before .is-start-kind .ensures) ∙ c .before .before .before .if5 .left,
       (
-        sym (c .before .before .is-end-kind .ensures) ∙ c .before .if5 .left,
+        sym (c .before .before .is-end-kind .ensures) ∙ c .before .if6 .left,
         (
-          long .before .before .before .if2 .left,
-          (omega (arith, long .if3 .left, long .before .before .block-length .ensures), (start .pre .0, start .pre .1)),
+          long .before .before .before .if3 .left,
+          (omega (arith, long .if4 .left, long .before .before .block-length .ensures), (start .pre .0, start .pre .1)),
         ),
       ),
     )
@@ -32,14 +44,19 @@ past-stretch-spec =
     (tie.spec
     (λ c κs. search needs)
     idle-run-requires
+    text-ahead-requires
     returns
-    (λ c. same-here (c .before .before .before .before .before .before .before .pre .0))
     (λ c κs. search needs)
-    (λ c. same-here (c .before .before .before .before .before .before .before .before .before .before .pre .0))
+    gap-run-requires
+    text-ahead-requires-2
+    returns-2
+    (λ c. same-here (c .before .before .before .before .before .before .before .before .before .pre .0))
     (λ c κs. search needs)
     (λ c. same-here (c .before .before .before .before .before .before .before .before .before .before .before .before .pre .0))
     (λ c κs. search needs)
     (λ c. same-here (c .before .before .before .before .before .before .before .before .before .before .before .before .before .before .pre .0))
-    payload-run-requires
+    (λ c κs. search needs)
+    (λ c. same-here (c .before .before .before .before .before .before .before .before .before .before .before .before .before .before .before .before .pre .0))
+    payload-ahead-requires
     (λ c. search needs)
-    (λ c. c .before .before .payload-run .ensures))
+    (λ c. c .before .before .payload-ahead .ensures))

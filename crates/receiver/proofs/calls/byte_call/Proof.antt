@@ -25,7 +25,7 @@ taken : (s : State) (g : List ℕ) (b : ℕ) → b < 256 → length g ≡ gridLe
     ≡ byteCall (stateOf s) g b
 unfolding returned byteCall
 taken s g b h long possible =
-    let (quiet, (reply, seen)) = decide-leaf s b in
+    let (quiet, reply, seen, count) = decide-leaf s b in
     rw (eq-eqb _ _ long, possible, applied-here g (decide s b .effect) b long, reply, ← same-step s g b h)
 
 returns : tie.Need-returns
@@ -51,7 +51,7 @@ returns-3 c =
     let d = apply .before .before .decide .ensures in
     let possible = un-not _ (ap not (sym (judged .before .is-possible .ensures)) ∙ judged .if2 .left) in (
       rw (apply .apply .ensures, d) (taken (a .state) (a .grid .now) (a .b) (search needs) (judged .before .before .if1 .left) possible),
-      rw d (decide-leaf (a .state) (a .b) .1 .1),
+      rw d (decide-leaf (a .state) (a .b) .2),
     )
 
 pub byte-call-spec : {M : Type 1} → statement M

@@ -55,31 +55,31 @@ returns-3 c =
 
 past-stretch-requires-2 : tie.Need-past-stretch-requires-2 Inv-loop μ-loop
 past-stretch-requires-2 c κs =
-    let l = c .before .before .before .before .before .before .before .before .before .before .before .before .before .before .before .before in
+    let l = c .before .before .before .before .before .before .before .before .before .before .before .before .before .before .before in
     let first = l .before .before .before .before in (
-      omega (arith, c .before .before .before .before .before .before .before .before .before .before .before .before .before .before .before .loop-test .taken),
-      c .before .before .before .before .before .before .before .before .before .before .before .apply .kept .0 ∙ l .loop .inv .long ∙ first .past-stretch .ensures .long ∙ first .before .before .before .before .if1 .left,
+      omega (arith, c .before .before .before .before .before .before .before .before .before .before .before .before .before .before .loop-test .taken),
+      c .before .before .before .before .before .before .before .before .before .before .apply .kept .0 ∙ l .loop .inv .long ∙ first .past-stretch .ensures .long ∙ first .before .before .before .before .if1 .left,
     )
 
 loop-again : tie.Need-loop-again Inv-loop μ-loop
 loop-again c =
-    let l = c .before .before .before .before .before .before .before .before .before .before .before .before .before .before .before .before .before .before .before .before in
+    let l = c .before .before .before .before .before .before .before .before .before .before .before .before .before .before .before .before .before .before .before in
     let first = l .before .before .before .before in
-    let apply = c .before .before .before .before .before .before .before .before .before .before .before .before .before .before .before in
+    let apply = c .before .before .before .before .before .before .before .before .before .before .before .before .before .before in
     same-trans
-    (quiet-on (first .past-stretch .ensures .long ∙ first .before .before .before .before .if1 .left) (l .loop .inv) (c .before .before .before .before .before .before .before .before .before .before .before .before .before .before .before .before .before .before .before .loop-test .taken)
+    (quiet-on (first .past-stretch .ensures .long ∙ first .before .before .before .before .if1 .left) (l .loop .inv) (c .before .before .before .before .before .before .before .before .before .before .before .before .before .before .before .before .before .before .loop-test .taken)
     (apply .before .before .decide .ensures) (apply .apply .ensures)
-    (sym (c .before .before .before .before .before .before .before .before .before .before .before .is-quiet .ensures) ∙ un-not (c .before .before .before .before .before .before .before .before .before .before .before .is-quiet .result) (c .before .before .before .before .before .before .before .before .before .before .if3 .left)))
+    (sym (c .before .before .before .before .before .before .before .before .before .before .is-quiet .ensures) ∙ un-not (c .before .before .before .before .before .before .before .before .before .before .is-quiet .result) (c .before .before .before .before .before .before .before .before .before .if3 .left)))
     (c .before .before .before .past-stretch2 .ensures)
 
 loop-again-2 : tie.Need-loop-again-2 Inv-loop μ-loop
 loop-again-2 c =
-    let l = c .before .before .before .before .before .before .before .before .before .before .before .before .before .before .before in
+    let l = c .before .before .before .before .before .before .before .before .before .before .before .before .before .before in
     let first = l .before .before .before .before in
-    let apply = c .before .before .before .before .before .before .before .before .before .before in
-    quiet-on (first .past-stretch .ensures .long ∙ first .before .before .before .before .if1 .left) (l .loop .inv) (c .before .before .before .before .before .before .before .before .before .before .before .before .before .before .loop-test .taken)
+    let apply = c .before .before .before .before .before .before .before .before .before in
+    quiet-on (first .past-stretch .ensures .long ∙ first .before .before .before .before .if1 .left) (l .loop .inv) (c .before .before .before .before .before .before .before .before .before .before .before .before .before .loop-test .taken)
     (apply .before .before .decide .ensures) (apply .apply .ensures)
-    (sym (c .before .before .before .before .before .before .is-quiet .ensures) ∙ un-not (c .before .before .before .before .before .before .is-quiet .result) (c .before .before .before .before .before .if3 .left))
+    (sym (c .before .before .before .before .before .is-quiet .ensures) ∙ un-not (c .before .before .before .before .before .is-quiet .result) (c .before .before .before .before .if3 .left))
 
 returns-4 : tie.Need-returns-4 Inv-loop μ-loop
 returns-4 c =
@@ -110,9 +110,9 @@ slice-call-spec =
     (λ c. c .before .before .before .before .before .apply .kept .0 ∙ c .before .before .before .before .before .before .before .before .before .before .loop .inv .long ∙ c .before .before .before .before .before .before .before .before .before .before .before .before .before .before .past-stretch .ensures .long)
     returns-3
     past-stretch-requires-2
-    (λ c. omega (arith, c .before .before .before .past-stretch2 .ensures .later, c .before .before .before .past-stretch2 .ensures .inside, c .before .before .before .before .before .before .before .before .before .before .before .before .before .before .before .before .before .before .before .loop-test .taken))
+    (λ c. omega (arith, c .before .before .before .past-stretch2 .ensures .later, c .before .before .before .past-stretch2 .ensures .inside, c .before .before .before .before .before .before .before .before .before .before .before .before .before .before .before .before .before .before .loop-test .taken))
     loop-again
-    (λ c. omega (arith, c .before .before .before .before .before .before .before .before .before .before .before .before .before .before .loop-test .taken))
+    (λ c. omega (arith, c .before .before .before .before .before .before .before .before .before .before .before .before .before .loop-test .taken))
     loop-again-2
     (λ c. c .before .loop .inv .long ∙ c .before .before .before .before .before .past-stretch .ensures .long)
     returns-4)

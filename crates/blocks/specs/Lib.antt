@@ -1,0 +1,2 @@
+-- What reading a whole block gives. Assumes nothing.
+pub mod Read

@@ -1,0 +1,40 @@
+-- What reading a whole block gives: header or modes, where the block keeps every rule. Assumes nothing.
+use Prim.Native.Nat.{ℕ}
+use mathlib.Core.Bool.{Bool, true, false, cond}
+use mathlib.Core.List.{List, [], _∷_}
+use lib.Dec.{eqb}
+use Rattle.texts.specs.Bytes.{_!_, allOf}
+use Rattle.texts.specs.Text.{FD}
+use Rattle.texts.specs.Pictures.{isPictureCode}
+use Rattle.texts.specs.Kinds.{isStartKind}
+use Rattle.texts.specs.StartBlock.{hasMode, isClockByte, isStartBlock, headerOf, blankHeader}
+use Rattle.texts.specs.EndBlock.{isEndBlock, modesOf, noModes}
+use Rattle.blocks.specs.declared.start.StartRead.{StartRead}
+use Rattle.blocks.specs.declared.end.EndRead.{EndRead}
+
+-- a start block's header, all 0 where the block breaks a rule. Notice 49, 4(1)(1-1)(c)(イ) and (d)(イ)
+abbrev pub brokenStart : StartRead
+brokenStart = record { kept = false; header = blankHeader }
+
+unfoldable pub startRead : List ℕ → StartRead
+startRead block = cond (isStartBlock block) (record { kept = true; header = headerOf block }) brokenStart
+
+-- an end block's modes, for these radars, all 0 where the block breaks a rule. Notice 49, 4(1)(1-1)(c)(ウ) and (d)(イ)
+abbrev pub brokenEnd : EndRead
+brokenEnd = record { kept = false; modes = noModes }
+
+unfoldable pub endRead : List ℕ → List ℕ → EndRead
+endRead radars block = cond (isEndBlock radars block) (record { kept = true; modes = modesOf block }) brokenEnd
+
+-- the rules of a start block's bytes 0 to 7
+unfoldable pub startFront : List ℕ → Bool
+startFront block =
+    allOf (
+    eqb (block ! 0) FD
+    ∷ isPictureCode (block ! 1)
+    ∷ isStartKind (block ! 2)
+    ∷ eqb (block ! 3) 0x00
+    ∷ hasMode (block ! 5)
+    ∷ isClockByte (block ! 6)
+    ∷ isClockByte (block ! 7)
+    ∷ [])
