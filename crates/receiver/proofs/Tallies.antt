@@ -1,6 +1,6 @@
--- The bytes seen and the check byte behind a stretch, and the grid with a stretch of bytes entered. Assumes nothing.
+-- The bytes seen and the check byte behind a stretch. Assumes nothing.
 use mathlib.Core.Path.{_≡_, refl, sym, ap, _∙_}
-use mathlib.Core.Bool.{Bool, true, false, _&&_, and-true, and-assoc}
+use mathlib.Core.Bool.{Bool, true, false}
 use mathlib.Core.List.{List, [], _∷_, _++_}
 use Prim.Native.Nat.{ℕ, zero, suc, _+_, _-_, _*_, _%_, _≤_, _<_}
 use native.Mathlib.Nat.{add-zero}
@@ -8,12 +8,12 @@ use native.Mathlib.Numerals.{add-one}
 use native.Mathlib.Omega.{arith}
 use lib.Bits.{bitXor}
 use lib.Dec.{ltb}
-use lib.ListN.{length, getD, set, take, drop, length-append, length-take, length-drop, take-append-drop}
-use lib.Seq.{sets, take-suc, drop-cons, drop-length, length-take-le}
+use lib.ListN.{length, getD, take, drop, length-append, length-take, length-drop, take-append-drop}
+use lib.Seq.{drop-cons, drop-length}
 use borrow.Author.Tests.{ltb-true, ltb-false}
-use Rattle.texts.specs.Bytes.{every}
 use Rattle.texts.specs.Text.{xorAll}
 use Rattle.texts.proofs.Xor.{xor-assoc}
+use Rattle.texts.proofs.Longer.{longer}
 use Rattle.text_laws.proofs.Rules.{by-test}
 use Rattle.stream.specs.Receiver.{_⊕_}
 use Rattle.stream.proofs.Steps.{xor-snoc}
@@ -120,34 +120,9 @@ count-five n (a ∷ b ∷ c ∷ d ∷ e ∷ bytes) l =
     let l5 = least m4 4 (omega (arith, l4)) (omega arith) in
     full bytes (pushCount m4) (omega (arith, l5, most m4))
 
-every-snoc : (test : ℕ → Bool) (xs : List ℕ) (x : ℕ) → every test (xs ++ (x ∷ [])) ≡ every test xs && test x
-unfolding every
-every-snoc test [] x = and-true (test x)
-every-snoc test (y ∷ xs) x = ap (λ t. test y && t) (every-snoc test xs x) ∙ sym (and-assoc (test y) (every test xs) (test x))
-
-sets-snoc : (g : List ℕ) (i : ℕ) (xs : List ℕ) (x : ℕ) → sets g i (xs ++ (x ∷ [])) ≡ set (sets g i xs) (i + length xs) x
-sets-snoc g i [] x = ap (λ k. set g k x) (sym (add-zero i))
-sets-snoc g i (y ∷ xs) x = sets-snoc (set g i y) (suc i) xs x ∙ ap (λ k. set (sets (set g i y) (suc i) xs) k x) (far i (length xs))
-  where
-    far : (i n : ℕ) → suc i + n ≡ i + suc n
-    far i n = omega arith
-
--- one byte more of a stretch: the check byte, the rule, the grid
-module _ (bytes : List ℕ) (i : ℕ) (h : i < length bytes) where
-  more : take i bytes ++ (getD bytes i 0 ∷ []) ≡ take (i + 1) bytes
-  more = sym (take-suc bytes i 0 h) ∙ ap (λ k. take k bytes) (sym (add-one i))
-
-  pub check-on : (x : ℕ) → (x ⊕ xorAll (take i bytes)) ⊕ getD bytes i 0 ≡ x ⊕ xorAll (take (i + 1) bytes)
-  unfolding _⊕_
-  check-on x =
-      xor-assoc x (xorAll (take i bytes)) (getD bytes i 0)
-      ∙ ap (bitXor x) (sym (xor-snoc (take i bytes) (getD bytes i 0)) ∙ ap xorAll more)
-
-  pub every-on : (test : ℕ → Bool) → every test (take i bytes) && test (getD bytes i 0) ≡ every test (take (i + 1) bytes)
-  every-on test = sym (every-snoc test (take i bytes) (getD bytes i 0)) ∙ ap (every test) more
-
-  pub sets-on : (g : List ℕ) (from : ℕ) → set (sets g from (take i bytes)) (from + i) (getD bytes i 0) ≡ sets g from (take (i + 1) bytes)
-  sets-on g from =
-      ap (λ k. set (sets g from (take i bytes)) (from + k) (getD bytes i 0)) (sym (length-take-le i bytes (omega arith)))
-      ∙ sym (sets-snoc g from (take i bytes) (getD bytes i 0))
-      ∙ ap (sets g from) more
+-- one byte more of a stretch in the check byte
+pub check-on : (bytes : List ℕ) (i x : ℕ) → i < length bytes → (x ⊕ xorAll (take i bytes)) ⊕ getD bytes i 0 ≡ x ⊕ xorAll (take (i + 1) bytes)
+unfolding _⊕_
+check-on bytes i x h =
+    xor-assoc x (xorAll (take i bytes)) (getD bytes i 0)
+    ∙ ap (bitXor x) (sym (xor-snoc (take i bytes) (getD bytes i 0)) ∙ ap xorAll (longer bytes i h))

@@ -1,9 +1,7 @@
 // What a byte does to the grid.
 use step::state::Effect;
 ghost use mathlib.Core.Path.{_≡_};
-ghost use Prim.Native.Nat.{_+_, _≤_};
 ghost use lib.ListN.{length};
-ghost use lib.Seq.{sets};
 ghost use Rattle.texts.specs.Part.{zeros};
 ghost use Rattle.receiver.specs.Returned.{appliedTo};
 
@@ -32,17 +30,5 @@ pub fn apply(grid: &mut [u8], effect: Effect, b: u8)
                 grid[at] = b;
             }
         }
-    }
-}
-
-// Enter these bytes from a place on
-pub(crate) fn enter_bytes(grid: &mut [u8], from: usize, bytes: &[u8])
-    requires { ⌜ from + length (now bytes) ≤ length (now grid) ⌝ }
-    ensures { λ r. ⌜ now (grid .exit) ≡ sets (now (grid .entry)) from (now (bytes .entry)) ⌝ }
-{
-    let mut i = 0;
-    while i < bytes.len() {
-        grid[from + i] = bytes[i];
-        i += 1;
     }
 }

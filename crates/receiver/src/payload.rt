@@ -1,5 +1,4 @@
 // Payload: a whole data text's at once, or as far as it goes.
-use crate::grid::enter_bytes;
 use crate::reach::Reached;
 use crate::reach::paid_state;
 use crate::tally::check_behind;
@@ -7,17 +6,17 @@ use crate::tally::last_five;
 use step::seen::counted;
 use step::seen::pushed;
 use step::state::State;
+use texts::bytes::put;
 use texts::kinds::block_length;
 use texts::kinds::part_of_kind;
 use texts::kinds::text_of_kind;
+use texts::payload::are_payload_bytes;
 use texts::payload::is_payload_byte;
 ghost use mathlib.Core.Path.{_≡_};
 ghost use mathlib.Core.Bool.{false};
 ghost use Prim.Native.Nat.{_≤_, _<_, _*_, _-_};
 ghost use lib.ListN.{length};
-ghost use Rattle.texts.specs.Bytes.{every};
 ghost use Rattle.texts.specs.Kinds.{isStartKind, isEndKind, textNumber, blockLength};
-ghost use Rattle.texts.specs.DataBlock.{isPayloadByte};
 ghost use Rattle.receiver.specs.Run.{Same};
 
 // Where a data text's payload begins in the grid. Notice 49, 4(1)(1-1)(d)(ウ)
@@ -72,20 +71,6 @@ fn payload_run(s: State, grid: &mut [u8], bytes: &[u8], from: usize) -> Reached
     }
 }
 
-// Whether all bytes may stand in the payload of a part. The loop has no way out, so that the
-// compiler can take many bytes at a time. Notice 49, 4(1)(1-1)(d)(ウ), 4(1)(1-2)(d)(ウ), 4(2)(d)(ウ)
-fn are_payload(part: u8, bytes: &[u8]) -> bool
-    ensures { λ r. ⌜ r ≡ every (isPayloadByte part) (now (bytes .entry)) ⌝ }
-{
-    let mut kept = true;
-    let mut i = 0;
-    while i < bytes.len() {
-        kept = kept & is_payload_byte(part, bytes[i]);
-        i += 1;
-    }
-    kept
-}
-
 // A whole payload at once where all of it is there and keeps its rule, else as far as it goes.
 // Notice 49, 4(1)(1-1)(c)(エ), 4(1)(1-2)(c)(エ), 4(2)(c)(エ)
 pub(crate) fn payload_ahead(s: State, grid: &mut [u8], bytes: &[u8], from: usize) -> Reached
@@ -104,10 +89,10 @@ pub(crate) fn payload_ahead(s: State, grid: &mut [u8], bytes: &[u8], from: usize
         return payload_run(s, grid, bytes, from);
     }
     let payload = &bytes[from..from + n];
-    if !are_payload(part_of_kind(f.kind), payload) {
+    if !are_payload_bytes(part_of_kind(f.kind), payload) {
         return payload_run(s, grid, bytes, from);
     }
-    enter_bytes(grid, payload_base(f.kind), payload);
+    put(grid, payload_base(f.kind), payload);
     let check = check_behind(f.check, payload);
     let seen = last_five(payload);
     Reached {

@@ -11,4 +11,5 @@ pub mod WholeParts
 pub mod Possible
 pub mod CallLists
 pub mod Theorem
+pub mod Firstly
 pub mod Samples

@@ -1,9 +1,10 @@
 -- The few words on lists of bytes that the other definitions use. Assumes nothing.
-use Prim.Native.Nat.{ℕ, _/_, _%_, _^_}
-use mathlib.Core.Bool.{Bool, true, false, _&&_, _||_}
+use Prim.Native.Nat.{ℕ, _+_, _/_, _%_, _^_}
+use mathlib.Core.Bool.{Bool, true, false, cond, _&&_, _||_}
 use mathlib.Core.List.{List, [], _∷_}
-use lib.Dec.{eqb}
-use lib.ListN.{getD}
+use lib.Dec.{eqb, leb}
+use lib.ListN.{length, getD}
+use lib.Seq.{sets}
 
 infixl 90 _!_
 -- the byte at place i, counted from 0; 0 past the end
@@ -35,3 +36,7 @@ same [] [] = true
 same [] (y ∷ ys) = false
 same (x ∷ xs) [] = false
 same (x ∷ xs) (y ∷ ys) = eqb x y && same xs ys
+
+-- bytes put into a list from a place on; all as it was where they do not fit
+unfoldable pub putAt : List ℕ → ℕ → List ℕ → List ℕ
+putAt output at bytes = cond (leb (at + length bytes) (length output)) (sets output at bytes) output

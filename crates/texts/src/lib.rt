@@ -2,6 +2,7 @@
 // Every function answers for every value of its parameters, by an equation with a definition of specs/.
 
 // 01, "A text", in its order
+pub mod bytes; // slices of bytes
 pub mod check; // the check byte
 pub mod codes; // picture codes and radar codes
 pub mod kinds; // kinds, block lengths, part lengths

@@ -6,9 +6,10 @@ use Prim.Native.Nat.{ℕ, _+_, _-_, _≤_, _<_}
 use native.Mathlib.Omega.{arith}
 use lib.Dec.{eqb, ltb}
 use lib.ListN.{length, take, drop, length-drop}
-use lib.Seq.{length-take-le}
+use lib.Seq.{sets, length-take-le}
 use borrow.Author.Needs.{needs}
-use borrow.Author.Tests.{eqb-true, ltb-false}
+use borrow.Author.Tests.{eqb-true, ltb-false, le-leb}
+use Rattle.texts.specs.Bytes.{putAt}
 use Rattle.texts.specs.Kinds.{blockLength}
 use Rattle.step.proofs.KindLaws.{block-most, data-number, data-kind}
 use Rattle.receiver.proofs.Runs.{neither, un-not}
@@ -22,6 +23,10 @@ width from n = omega arith
 long : (bytes : List ℕ) (from n : ℕ) → n ≤ length bytes - from → from ≤ length bytes → length (take (from + n - from) (drop from bytes)) ≡ n
 long bytes from n room inside =
     ap (λ k. length (take k (drop from bytes))) (width from n) ∙ length-take-le n (drop from bytes) (omega (arith, length-drop from bytes))
+
+put-fits : (output : List ℕ) (at : ℕ) (bytes : List ℕ) → at + length bytes ≤ length output → putAt output at bytes ≡ sets output at bytes
+unfolding putAt
+put-fits output at bytes h = rw (le-leb (at + length bytes) (length output) h)
 
 -- the whole payload is there
 there : (place count left n : ℕ) → (not (eqb place 3) || not (eqb count 5) || ltb left n) ≡ false → (place ≡ 3) × (count ≡ 5) × (n ≤ left)
@@ -42,21 +47,6 @@ payload-base-requires : tie.Need-payload-base-requires
 payload-base-requires c κs =
     let start = c .before .before .before .before .before .before .before .before .before .before .before .before in
     (start .pre .0, (start .pre .1 .0, omega (arith, start .pre .1 .1 .0, start .pre .1 .1 .1 .0)))
-
-enter-bytes-requires : tie.Need-enter-bytes-requires
-enter-bytes-requires c κs =
-    let test = c .before .before .before .before .before .before in
-    let start = test .before .before .before .before .before .before .before in
-    let a = start .args in
-    let (place, count, room) = there (a .s .frame .place) (a .s .frame .count) (length (a .bytes .now) - a .from) (test .before .before .before .block-length .result - 3) (test .if1 .left) in
-    omega (
-      arith,
-      c .payload-base .ensures .1,
-      test .before .before .before .block-length .ensures,
-      block-most (a .s .frame .kind),
-      start .pre .1 .1 .1 .1 .1,
-      long (a .bytes .now) (a .from) (test .before .before .before .block-length .result - 3) room (start .pre .1 .1 .1 .1 .0),
-    )
 
 last-five-requires : tie.Need-last-five-requires
 last-five-requires c κs =
@@ -89,10 +79,21 @@ returns-3 c =
     let (place, count, room) = there (a .s .frame .place) (a .s .frame .count) (length (a .bytes .now) - a .from) (test .before .before .before .block-length .result - 3) (test .if1 .left) in
     let size = test .before .before .before .block-length .ensures in
     let (is, many) = data-kind (a .s .frame .kind) (search needs) (start .pre .0) (start .pre .1 .0) (omega (arith, start .pre .1 .1 .0, start .pre .1 .1 .1 .0)) in
+    let fits =
+    put-fits (a .grid .now) (entered .before .payload-base .result)
+    (take (a .from + (test .before .before .before .block-length .result - 3) - a .from) (drop (a .from) (a .bytes .now)))
+    (omega (
+      arith,
+      entered .before .payload-base .ensures .1,
+      size,
+      block-most (a .s .frame .kind),
+      start .pre .1 .1 .1 .1 .1,
+      long (a .bytes .now) (a .from) (test .before .before .before .block-length .result - 3) room (start .pre .1 .1 .1 .1 .0),
+    )) in
     rw (c .paid-state .ensures)
     (payload-on (a .s) (a .grid .now) (a .bytes .now) (a .from) _ (ap (λ n. take n (drop (a .from) (a .bytes .now))) (width (a .from) _)) is place count size
     (omega (arith, size, many)) (omega (arith, size, many)) (omega (arith, room, start .pre .1 .1 .1 .1 .0)) (λ j. omega (arith, test .before .before .before .before .before .shared-slice-known .given j))
-    (rule .before .part-of-kind .ensures) (rule .are-payload .ensures) (un-not _ (c .before .before .before .before .before .before .before .before .if2 .left)) (entered .before .payload-base .ensures .0) (entered .enter-bytes .ensures)
+    (rule .before .part-of-kind .ensures) (rule .are-payload-bytes .ensures) (un-not _ (c .before .before .before .before .before .before .before .before .if2 .left)) (entered .before .payload-base .ensures .0) (entered .put .ensures ∙ fits)
     (c .before .before .check-behind .ensures) (c .before .last-five .ensures))
 
 pub payload-ahead-spec : {M : Type 1} → statement M
@@ -116,7 +117,7 @@ payload-ahead-spec =
     (λ c. search needs)
     (λ c. search needs)
     payload-base-requires
-    enter-bytes-requires
+    (λ c κs. search needs)
     (λ c κs. search needs)
     last-five-requires
     (λ c κs. search needs)

@@ -27,7 +27,7 @@ loop-again c =
     let l = c .before .before in
     let a = l .before .args in (
       omega (arith, c .before .loop-test .taken),
-      ap (λ x. x ⊕ getD (a .bytes .now) (l .loop .i) 0) (l .loop .inv .1) ∙ check-on (a .bytes .now) (l .loop .i) (c .before .loop-test .taken) (a .check),
+      ap (λ x. x ⊕ getD (a .bytes .now) (l .loop .i) 0) (l .loop .inv .1) ∙ check-on (a .bytes .now) (l .loop .i) (a .check) (c .before .loop-test .taken),
     )
 
 returns : tie.Need-returns Inv-loop μ-loop

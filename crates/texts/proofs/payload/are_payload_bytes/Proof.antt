@@ -6,11 +6,11 @@ use native.Mathlib.Omega.{arith}
 use lib.ListN.{length, getD, take}
 use lib.Seq.{take-all}
 use borrow.Author.Needs.{needs}
 use Rattle.texts.specs.Bytes.{every}
 use Rattle.texts.specs.DataBlock.{isPayloadByte}
-use Rattle.receiver.proofs.Tallies.{every-on}
-use Rattle.receiver.proofs.payload.are_payload.Statement.{statement}
-use Rattle.receiver.proofs.payload.are_payload.Tie as tie
+use Rattle.texts.proofs.Longer.{every-on}
+use Rattle.texts.proofs.payload.are_payload_bytes.Statement.{statement}
+use Rattle.texts.proofs.payload.are_payload_bytes.Tie as tie
 
 abbrev Inv-loop : tie.InvT-loop
 Inv-loop part bytes kept₀ i₀ kept i = (i ≤ length bytes) × (kept ≡ every (isPayloadByte part) (take i bytes))
@@ -36,6 +36,6 @@ returns c =
     let a = l .before .before .args in
     l .loop .inv .1 ∙ ap (every (isPayloadByte (a .part))) (take-all (l .loop .i) (a .bytes .now) (omega (arith, c .loop-test .left)))
 
-pub are-payload-spec : {M : Type 1} → statement M
-are-payload-spec =
+pub are-payload-bytes-spec : {M : Type 1} → statement M
+are-payload-bytes-spec =
     tie.close (tie.spec Inv-loop μ-loop loop-holds (λ c. search needs) (λ c κs. search needs) (λ c. omega arith) (λ c. omega arith) loop-again returns)
