@@ -1,0 +1,260 @@
+-- Complete is rewritten: what a receiver holds after an undamaged part is written again as that part. Assumes nothing.
+use mathlib.Core.Path.{_≡_, refl, sym, ap, ap₂, _∙_, subst}
+use mathlib.Core.Bool.{Bool, true, false, not, _&&_, and-true, and-false}
+use mathlib.Core.List.{List, [], _∷_, _++_, map}
+use Prim.Native.Nat.{ℕ, zero, suc, _+_, _-_, _≤_, _<_}
+use native.Mathlib.Omega.{arith}
+use lib.Dec.{eqb, lit≤}
+use lib.ListN.{length}
+use lib.Seq.{sets, length-sets}
+use borrow.Author.Tests.{eqb-true, not-true}
+use Rattle.texts.specs.Bytes.{_!_, bit, isIn, every}
+use Rattle.texts.specs.Text.{textOf}
+use Rattle.texts.specs.Kinds.{isPartNumber, dataTexts, payloadLength}
+use Rattle.texts.specs.StartBlock.{noEchoOf, modeByte, clockBytes, radarsOf, headerOf}
+use Rattle.texts.specs.EndBlock.{modesOf}
+use Rattle.texts.specs.Part.{Part, textsOf, partBytes, dataTextsAfter, isPart, UndamagedPart, payloadsOf, zeros, partModes}
+use Rattle.texts.proofs.Tests.{places}
+use Rattle.text_laws.proofs.Rules.{by-test, and-split}
+use Rattle.text_laws.proofs.Framing.{text-length}
+use Rattle.text_laws.proofs.Blocks.{start-rules, end-rules, PartRules, part-rules}
+use Rattle.relay.specs.Written.{writesNoEcho, statusByte, timeText, blockOf, startContents, endContents, dataBlocks, writtenPart}
+use Rattle.relay.specs.Demand2.{heldPart, heldPayload, rewrittenPart, cameBlank, endAt, startPlaces, endPlaces, mayDiffer, plainStatus, plainMode, isPlain, Rewritten}
+use Rattle.relay.proofs.Places.{neither, in-shifted, append-agrees, sets-at, sets-same, text-agrees, start-byte-at, end-byte-at, bytes-long}
+use Rattle.relay.proofs.Again.{start-again, end-again, datas-again}
+use Rattle.relay.proofs.Holding.{every-zeros, by-part, is-part-number, held-payload, radars-long, held-taken}
+
+-- ---- how many data texts
+
+-- quality has its data text whatever its NO ECHO bit says
+texts-plain : (p : ℕ) (noEcho : Bool) → dataTexts p (noEcho && not (eqb p 3)) ≡ dataTexts p noEcho
+unfolding dataTexts
+texts-plain p noEcho = by-test (eqb p 3) (λ e. rw e) (λ e. rw (e, and-true noEcho))
+
+-- a part without NO ECHO has data texts
+some-texts : (p : ℕ) → isPartNumber p ≡ true → eqb (dataTexts p false) 0 ≡ false
+unfolding dataTexts
+some-texts p h = by-part p h (λ e. rw e) (λ e. rw e) (λ e. rw e)
+
+-- intensity and top with NO ECHO have none
+no-texts : (p : ℕ) → eqb p 3 ≡ false → dataTexts p true ≡ 0
+unfolding dataTexts
+no-texts p h = rw h
+
+no-payloads : (blocks : List (List ℕ)) → length blocks ≡ 0 → payloadsOf blocks ≡ []
+unfolding payloadsOf
+no-payloads [] h = refl
+no-payloads (block ∷ blocks) h = absurd (omega arith)
+
+-- ---- mode bytes by place
+
+map-place : (f : ℕ → ℕ) (n m i : ℕ) → i < m → map f (places n m) ! i ≡ f (n + i)
+map-place f n zero i h = absurd (omega arith)
+map-place f n (suc m) zero h = ap f (first n)
+  where
+    first : (n : ℕ) → n ≡ n + 0
+    first n = omega arith
+map-place f n (suc m) (suc i) h = map-place f (suc n) m i (omega arith) ∙ ap f (next n i)
+  where
+    next : (n i : ℕ) → suc n + i ≡ n + suc i
+    next n i = omega arith
+
+map-same : (f g : ℕ → ℕ) (js : List ℕ) → every (λ j. eqb (f j) (g j)) js ≡ true → map f js ≡ map g js
+unfolding every
+map-same f g [] h = refl
+map-same f g (j ∷ js) h =
+    let (a, b) = and-split (eqb (f j) (g j)) (every (λ j. eqb (f j) (g j)) js) h in
+    ap₂ (λ x xs. x ∷ xs) (eqb-true (f j) (g j) a) (map-same f g js b)
+
+-- ---- a part with plain status and mode bytes
+
+abbrev plainStart : Part → List ℕ
+plainStart part = plainStatus (heldPart part) (part .start ! 4) ∷ plainMode (part .start ! 5) ∷ []
+
+abbrev plainEnd : Part → List ℕ
+plainEnd part = map (λ j. plainMode (part .end ! j)) (places 3 8)
+
+abbrev plainPart : Part → Part
+plainPart part = record { start = sets (part .start) 4 (plainStart part); datas = part .datas; end = sets (part .end) 3 (plainEnd part) }
+
+module _ (part : Part) (h : isPart part ≡ true) where
+  abbrev rules : PartRules part
+  rules = part-rules part h
+
+  start-long : length (part .start) ≡ 32
+  start-long = start-rules (part .start) (rules .start) .long
+
+  end-long : length (part .end) ≡ 32
+  end-long = end-rules (radarsOf (part .start)) (part .end) (rules .end) .long
+
+  -- ---- what is written
+
+  -- with NO ECHO, intensity and top have no payload but zeros
+  silent : eqb (heldPart part) 3 ≡ false → noEchoOf (part .start ! 4) ≡ true → every (λ b. eqb b 0) (heldPayload part) ≡ true
+  silent e t =
+      let none : length (part .datas) ≡ 0 = rules .count ∙ ap (dataTexts (heldPart part)) t ∙ no-texts (heldPart part) e in
+      let zero : heldPayload part ≡ zeros (payloadLength (heldPart part) - 0) =
+      held-payload part h ∙ ap (λ t. t ++ zeros (payloadLength (heldPart part) - length t)) (no-payloads (part .datas) none) in
+      subst (λ t. every (λ b. eqb b 0) t ≡ true) (sym zero) (every-zeros (λ b. eqb b 0) (payloadLength (heldPart part) - 0) refl)
+
+  -- NO ECHO is written as it came, but not in quality
+  echo-again : cameBlank part ≡ false → writesNoEcho (heldPart part) (heldPayload part) ≡ (noEchoOf (part .start ! 4) && not (eqb (heldPart part) 3))
+  unfolding writesNoEcho
+  echo-again c =
+      by-test (eqb (heldPart part) 3) (λ e. rw e (sym (and-false (noEchoOf (part .start ! 4)))))
+      (λ e. by-test (noEchoOf (part .start ! 4)) (λ t. rw (e, t, silent e t))
+      (λ t. rw (e, t) (rw (e, t, some-texts (heldPart part) (is-part-number part h), and-true) at c)))
+
+  start-same : cameBlank part ≡ false → rewrittenPart part .start ≡ plainPart part .start
+  unfolding writtenPart headerOf
+  start-same c =
+      start-again (part .start) (writesNoEcho (heldPart part) (heldPayload part)) (partModes part) (rules .start)
+      ∙ ap₂ (λ a m. sets (part .start) 4 (statusByte a ∷ modeByte m ∷ [])) (echo-again c) (sym (rules .mode))
+
+  datas-same : cameBlank part ≡ false → rewrittenPart part .datas ≡ part .datas
+  unfolding writtenPart headerOf
+  datas-same c =
+      let count : dataTexts (heldPart part) (writesNoEcho (heldPart part) (heldPayload part)) ≡ length (part .datas) =
+      ap (dataTexts (heldPart part)) (echo-again c) ∙ texts-plain (heldPart part) (noEchoOf (part .start ! 4)) ∙ sym (rules .count) in
+      ap₂ (λ n t. dataBlocks (heldPart part) (part .start ! 1) 1 n t) count (held-payload part h)
+      ∙ datas-again (part .start ! 1) (heldPart part) 1 (part .datas) (zeros (payloadLength (heldPart part) - length (payloadsOf (part .datas)))) (rules .order)
+
+  end-same : rewrittenPart part .end ≡ plainPart part .end
+  unfolding writtenPart headerOf
+  end-same =
+      ap₂ (λ q k. blockOf q k (endContents (partModes part))) (sym (rules .endPicture)) (sym (rules .endKind))
+      ∙ end-again (radarsOf (part .start)) (part .end) (rules .end)
+
+  -- Not blank: the same part, with plain status and mode bytes
+  part-again : cameBlank part ≡ false → rewrittenPart part ≡ plainPart part
+  part-again c = λ i. record { start = start-same c i; datas = datas-same c i; end = end-same i }
+
+  -- ---- the bytes of the plain part
+
+  start-text : length (textOf (plainPart part .start)) ≡ length (textOf (part .start))
+  start-text = text-length (plainPart part .start) ∙ ap (λ n. n + 8) (length-sets (part .start) 4 (plainStart part)) ∙ sym (text-length (part .start))
+
+  end-text : length (textOf (plainPart part .end)) ≡ length (textOf (part .end))
+  end-text = text-length (plainPart part .end) ∙ ap (λ n. n + 8) (length-sets (part .end) 3 (plainEnd part)) ∙ sym (text-length (part .end))
+
+  plain-long : length (partBytes (plainPart part)) ≡ length (partBytes part)
+  plain-long =
+      bytes-long (plainPart part)
+      ∙ ap₂ (λ a b. a + length (textsOf (part .datas)) + b) start-text end-text
+      ∙ sym (bytes-long part)
+
+  -- where the end text begins
+  end-begins : endAt (partBytes part) ≡ length (textOf (part .start)) + length (textsOf (part .datas))
+  end-begins = omega (arith, bytes-long part, text-length (part .end), end-long)
+
+  plain-places : (i : ℕ) → mayDiffer (partBytes part) i ≡ false → partBytes (plainPart part) ! i ≡ partBytes part ! i
+  unfolding partBytes
+  plain-places i m =
+      let (a, b) = neither (isIn i startPlaces) (isIn i (map (λ j. endAt (partBytes part) + j) endPlaces)) m in
+      append-agrees (textOf (plainPart part .start)) (textOf (part .start)) (textsOf (part .datas) ++ textOf (plainPart part .end)) (textsOf (part .datas) ++ textOf (part .end)) start-text i
+      (λ _. text-agrees (part .start) 4 (plainStart part) i start-long a)
+      (λ j e. append-agrees (textsOf (part .datas)) (textsOf (part .datas)) (textOf (plainPart part .end)) (textOf (part .end)) refl j
+      (λ _. refl)
+      (λ k f. text-agrees (part .end) 3 (plainEnd part) k end-long (free b k (omega (arith, end-begins, start-text)))))
+    where
+      free : isIn i (map (λ j. endAt (partBytes part) + j) endPlaces) ≡ false → (k : ℕ) → i ≡ endAt (partBytes part) + k → isIn k endPlaces ≡ false
+      free b k e =
+          sym (in-shifted (endAt (partBytes part)) k endPlaces) ∙ ap (λ t. isIn t (map (λ j. endAt (partBytes part) + j) endPlaces)) (sym e) ∙ b
+
+  plain-long-start : 32 ≤ length (plainPart part .start)
+  plain-long-start = omega (arith, length-sets (part .start) 4 (plainStart part), start-long)
+
+  plain-status : partBytes (plainPart part) ! 9 ≡ plainStatus (heldPart part) (partBytes part ! 9)
+  plain-status =
+      start-byte-at (plainPart part) 4 (omega (arith, plain-long-start))
+      ∙ sets-at (part .start) 4 (plainStart part) 0 (omega (arith, start-long)) (lit≤ tt)
+      ∙ ap (plainStatus (heldPart part)) (sym (start-byte-at part 4 (omega (arith, start-long))))
+
+  plain-mode : partBytes (plainPart part) ! 10 ≡ plainMode (partBytes part ! 10)
+  plain-mode =
+      start-byte-at (plainPart part) 5 (omega (arith, plain-long-start))
+      ∙ sets-at (part .start) 4 (plainStart part) 1 (omega (arith, start-long)) (lit≤ tt)
+      ∙ ap plainMode (sym (start-byte-at part 5 (omega (arith, start-long))))
+
+  plain-modes : (i : ℕ) → i < 8 → partBytes (plainPart part) ! (endAt (partBytes part) + (8 + i)) ≡ plainMode (partBytes part ! (endAt (partBytes part) + (8 + i)))
+  plain-modes i l =
+      let n = endAt (partBytes part) in
+      let place : n + (8 + i) ≡ n + (5 + (3 + i)) = omega arith in
+      ap (λ t. partBytes (plainPart part) ! t) place
+      ∙ end-byte-at (plainPart part) n (3 + i) (omega (arith, end-begins, start-text)) (omega (arith, length-sets (part .end) 3 (plainEnd part), end-long))
+      ∙ sets-at (part .end) 3 (plainEnd part) i (omega (arith, end-long)) l
+      ∙ map-place (λ j. plainMode (part .end ! j)) 3 8 i l
+      ∙ ap plainMode (sym (end-byte-at part n (3 + i) end-begins (omega (arith, end-long))) ∙ ap (λ t. partBytes part ! t) (sym place))
+
+  -- plain bytes are left as they are
+  plain-same : isPlain part ≡ true → plainPart part ≡ part
+  plain-same p =
+      let (ab, c) = and-split (eqb (plainStatus (heldPart part) (part .start ! 4)) (part .start ! 4) && eqb (plainMode (part .start ! 5)) (part .start ! 5)) (every (λ i. eqb (plainMode (part .end ! i)) (part .end ! i)) (places 3 8)) p in
+      let (a, b) = and-split (eqb (plainStatus (heldPart part) (part .start ! 4)) (part .start ! 4)) (eqb (plainMode (part .start ! 5)) (part .start ! 5)) ab in
+      let start : plainPart part .start ≡ part .start =
+      ap₂ (λ s t. sets (part .start) 4 (s ∷ t ∷ [])) (eqb-true _ _ a) (eqb-true _ _ b) ∙ sets-same (part .start) 4 2 in
+      let end : plainPart part .end ≡ part .end =
+      ap (λ t. sets (part .end) 3 t) (map-same (λ j. plainMode (part .end ! j)) (λ j. part .end ! j) (places 3 8) c) ∙ sets-same (part .end) 3 8 in
+      λ i. record { start = start i; datas = part .datas; end = end i }
+
+  -- ---- blank
+
+  blank-echo : cameBlank part ≡ true → writesNoEcho (heldPart part) (heldPayload part) ≡ true
+  blank-echo c = and-split (writesNoEcho (heldPart part) (heldPayload part)) (not (eqb (dataTextsAfter (part .start)) 0)) c .0
+
+  blank-part : cameBlank part ≡ true → eqb (heldPart part) 3 ≡ false
+  unfolding writesNoEcho
+  blank-part c = not-true _ (and-split (not (eqb (heldPart part) 3)) (every (λ b. eqb b 0) (heldPayload part)) (blank-echo c) .0)
+
+  blank-datas : cameBlank part ≡ true → rewrittenPart part .datas ≡ []
+  unfolding writtenPart dataBlocks
+  blank-datas c =
+      ap (λ n. dataBlocks (heldPart part) (headerOf (part .start) .picture) 1 n (heldPayload part))
+      (ap (dataTexts (heldPart part)) (blank-echo c) ∙ no-texts (heldPart part) (blank-part c))
+
+  blank-status : cameBlank part ≡ true → noEchoOf (rewrittenPart part .start ! 4) ≡ true
+  unfolding writtenPart startContents statusByte noEchoOf bit
+  blank-status c = ap (λ t. noEchoOf (statusByte t)) (blank-echo c)
+
+  again-start-long : length (rewrittenPart part .start) ≡ 32
+  unfolding writtenPart startContents clockBytes timeText headerOf
+  again-start-long = omega (arith, radars-long part h)
+
+  again-end-long : length (rewrittenPart part .end) ≡ 32
+  unfolding writtenPart endContents modesOf zeros
+  again-end-long = refl
+
+  blank-long : cameBlank part ≡ true → length (partBytes (rewrittenPart part)) ≡ 80
+  unfolding textsOf
+  blank-long c =
+      bytes-long (rewrittenPart part)
+      ∙ ap (λ t. length (textOf (rewrittenPart part .start)) + length (textsOf t) + length (textOf (rewrittenPart part .end))) (blank-datas c)
+      ∙ omega (arith, text-length (rewrittenPart part .start), text-length (rewrittenPart part .end), again-start-long, again-end-long)
+
+-- Complete is rewritten
+pub rewritten : (bytes : List ℕ) (u : UndamagedPart bytes) → Rewritten bytes u
+rewritten bytes u =
+    record {
+      taken = held-taken part h;
+      long = λ c. ap (λ t. length (partBytes t)) (part-again part h c) ∙ plain-long part h ∙ ap length (sym framed);
+      places = λ c i m. again c i ∙ plain-places part h i (subst (λ t. mayDiffer t i ≡ false) framed m) ∙ ap (λ t. t ! i) (sym framed);
+      status = λ c. (
+        again c 9 ∙ plain-status part h ∙ ap (λ t. plainStatus (heldPart part) (t ! 9)) (sym framed),
+        again c 10 ∙ plain-mode part h ∙ ap (λ t. plainMode (t ! 10)) (sym framed),
+      );
+      modes = λ c i l. again c (endAt bytes + (8 + i)) ∙ subst (λ t. partBytes (plainPart part) ! (endAt t + (8 + i)) ≡ plainMode (t ! (endAt t + (8 + i)))) (sym framed) (plain-modes part h i l);
+      same = λ c p. ap partBytes (part-again part h c ∙ plain-same part h p) ∙ sym framed;
+      blank = λ c. (blank-datas part h c, blank-status part h c, blank-long part h c);
+    }
+  where
+    part : Part
+    part = u .part
+
+    h : isPart part ≡ true
+    h = u .rules
+
+    framed : bytes ≡ partBytes part
+    framed = u .framed
+
+    again : cameBlank part ≡ false → (i : ℕ) → partBytes (rewrittenPart part) ! i ≡ partBytes (plainPart part) ! i
+    again c i = ap (λ t. partBytes t ! i) (part-again part h c)
