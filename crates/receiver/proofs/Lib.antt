@@ -5,3 +5,4 @@ pub mod Stretches
 pub mod Quiet
 pub mod Tallies
 pub mod Wholes
+pub mod Payloads

@@ -1,10 +1,13 @@
 -- The bytes of a slice, one by one, in the code's terms. Assumes nothing.
 use mathlib.Core.Path.{_≡_}
 use mathlib.Core.Bool.{Bool, cond, not, _&&_}
-use lib.Dec.{eqb}
+use lib.Dec.{eqb, leb, ltb}
 use mathlib.Core.List.{List, [], _∷_}
 use Prim.Native.Nat.{ℕ, _+_, _≤_}
 use lib.ListN.{length, drop}
+use Rattle.texts.specs.Pictures.{isPictureCode}
+use Rattle.texts.specs.Kinds.{isKind, kindOf, dataBlockLength}
+use Rattle.texts.specs.DataBlock.{isPayloadByte}
 use Rattle.step.specs.Decide.{decide, applied, frame}
 use Rattle.step.specs.declared.state.Frame.{Frame}
 use Rattle.step.specs.declared.state.State.{State}
@@ -58,6 +61,20 @@ isIdle f =
 unfoldable pub isGap : Frame → Bool
 isGap f =
     eqb (f .place) 0 && not (eqb (f .part) 0) && eqb (f .kind) 0 && eqb (f .picture) 0 && eqb (f .check) 0
+
+-- a data text of the open part is under way, the one that is due; it is inside its payload, five bytes are seen, and this byte keeps
+-- the payload's rule. Notice 49, 4(1)(1-1)(c)(エ), 4(1)(1-2)(c)(エ), 4(2)(c)(エ)
+unfoldable pub isPayloadHere : Frame → ℕ → Bool
+isPayloadHere f b =
+    leb 3 (f .place)
+    && not (eqb (f .due) 0)
+    && leb (f .due) 10
+    && eqb (f .count) 5
+    && ltb (f .place) (dataBlockLength (f .part))
+    && eqb (f .kind) (kindOf (f .part) (f .due))
+    && isKind (f .kind)
+    && isPictureCode (f .picture)
+    && isPayloadByte (f .part) b
 
 -- the number that holds the bytes seen behind these, whatever was seen before
 abbrev pub SeenBehind : ℕ → List ℕ → Type 0

@@ -7,8 +7,11 @@
 // `stream`'s state does not have: how the code holds the bytes seen.
 use crate::ahead::past_stretch;
 use crate::grid::apply;
+use crate::payload::is_payload_here;
+use crate::reach::paid_state;
 use step::decide::decide;
 use step::possible::is_possible;
+use step::seen::pushed;
 use step::state::Answer;
 use step::state::Frame;
 use step::state::State;
@@ -57,7 +60,8 @@ pub fn fresh() -> State
     }
 }
 
-// The byte call
+// The byte call. Inside a payload, where most bytes are, it goes by fewer tests.
+// Notice 49, 4(1)(1-1)(c)(エ), 4(1)(1-2)(c)(エ), 4(2)(c)(エ)
 pub fn byte_call(state: State, grid: &mut [u8], b: u8) -> Got
     ensures { λ r. ⌜ returned r (now (grid .exit)) ≡ byteCall (stateOf state) (now (grid .entry)) b ⌝ }
     ensures { λ r. ⌜ r .state .seen ≡ seenAfter (state .seen) (take (r .count) (b ∷ [])) ⌝ }
@@ -67,6 +71,15 @@ pub fn byte_call(state: State, grid: &mut [u8], b: u8) -> Got
             state,
             answer: Answer::Refused(1),
             count: 0,
+        };
+    }
+    let f = state.frame;
+    if is_payload_here(f, b) {
+        grid[2000 * ((f.due - 1) as usize) + ((f.place - 3) as usize)] = b;
+        return Got {
+            state: paid_state(state, f.place + 1, f.check ^ b, pushed(state.seen, b), 5),
+            answer: Answer::Quiet,
+            count: 1,
         };
     }
     if !is_possible(state) {

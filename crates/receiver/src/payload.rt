@@ -5,9 +5,14 @@ use crate::tally::check_behind;
 use crate::tally::last_five;
 use step::seen::counted;
 use step::seen::pushed;
+use step::state::Frame;
 use step::state::State;
 use texts::bytes::put;
+use texts::codes::is_picture_code;
 use texts::kinds::block_length;
+use texts::kinds::data_block_length;
+use texts::kinds::is_kind;
+use texts::kinds::kind_of;
 use texts::kinds::part_of_kind;
 use texts::kinds::text_of_kind;
 use texts::payload::are_payload_bytes;
@@ -17,7 +22,34 @@ ghost use mathlib.Core.Bool.{false};
 ghost use Prim.Native.Nat.{_≤_, _<_, _*_, _-_};
 ghost use lib.ListN.{length};
 ghost use Rattle.texts.specs.Kinds.{isStartKind, isEndKind, textNumber, blockLength};
-ghost use Rattle.receiver.specs.Run.{Same};
+ghost use Rattle.receiver.specs.Run.{Same, isPayloadHere};
+
+// Whether a byte is payload of the data text that is under way and due. Where it is, the state is
+// possible (01, row 2); a byte outside a payload is told by the first tests.
+// Notice 49, 4(1)(1-1)(c)(エ), 4(1)(1-2)(c)(エ), 4(2)(c)(エ)
+pub(crate) fn is_payload_here(f: Frame, b: u8) -> bool
+    ensures { λ r. ⌜ r ≡ isPayloadHere f b ⌝ }
+{
+    if f.place < 3 {
+        return false;
+    }
+    if f.due == 0 {
+        return false;
+    }
+    if 10 < f.due {
+        return false;
+    }
+    if f.count != 5 {
+        return false;
+    }
+    if data_block_length(f.part) <= f.place {
+        return false;
+    }
+    if f.kind != kind_of(f.part, f.due) {
+        return false;
+    }
+    is_kind(f.kind) & is_picture_code(f.picture) & is_payload_byte(f.part, b)
+}
 
 // Where a data text's payload begins in the grid. Notice 49, 4(1)(1-1)(d)(ウ)
 fn payload_base(kind: u8) -> usize

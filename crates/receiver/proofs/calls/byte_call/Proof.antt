@@ -1,21 +1,27 @@
--- The refusals as the definition has them; then the decision is the step. Assumes nothing.
-use mathlib.Core.Path.{_≡_, refl, sym, ap, _∙_}
+-- The refusals as the definition has them; a payload byte by its law; else the decision is the step. Assumes nothing.
+use mathlib.Core.Path.{_≡_, refl, sym, ap, _∙_, subst}
 use mathlib.Core.Bool.{true, not}
-use mathlib.Core.List.{List}
-use Prim.Native.Nat.{ℕ, _<_}
-use lib.ListN.{length, take}
+use mathlib.Core.List.{List, [], _∷_}
+use Prim.Native.Nat.{ℕ, _+_, _*_, _-_, _<_}
+use native.Mathlib.Omega.{arith}
+use lib.ListN.{length, take, set}
 use borrow.Author.Needs.{needs}
 use borrow.Author.Tests.{eq-eqb, ne-eqb}
 use Rattle.texts.specs.Part.{gridLength}
 use Rattle.stream.specs.State.{isPossible}
+use Rattle.stream.specs.Receiver.{_⊕_}
 use Rattle.stream.specs.Calls.{byteCall}
-use Rattle.step.specs.Meaning.{stateOf}
+use Rattle.step.specs.Meaning.{pushSeen, stateOf}
 use Rattle.step.specs.Decide.{decide, applied}
 use Rattle.step.specs.declared.state.State.{State}
+use Rattle.step.specs.declared.state.Decided.{Decided}
+use Rattle.step.specs.declared.state.Answer.the-variants.{Quiet}
 use Rattle.receiver.specs.Returned.{returned, replyOf, seenAfter, appliedTo}
+use Rattle.receiver.specs.Run.{paid, isPayloadHere}
 use Rattle.receiver.specs.declared.calls.Got.{Got}
 use Rattle.receiver.proofs.Leaves.{decide-leaf}
 use Rattle.receiver.proofs.Runs.{same-step, applied-here, un-not}
+use Rattle.receiver.proofs.Payloads.{here-has, short-here, possible-here, decide-here}
 use Rattle.receiver.proofs.calls.byte_call.Statement.{statement}
 use Rattle.receiver.proofs.calls.byte_call.Tie as tie
 
@@ -28,29 +34,80 @@ taken s g b h long possible =
     let (quiet, reply, seen, count) = decide-leaf s b in
     rw (eq-eqb _ _ long, possible, applied-here g (decide s b .effect) b long, reply, ← same-step s g b h)
 
+-- a payload byte, under the names that the code has for the state after it
+entered :
+    (s : State) (g : List ℕ) (b : ℕ) {t : State} {seen : ℕ} → b < 256 → length g ≡ gridLength → isPayloadHere (s .frame) b ≡ true
+    → seen ≡ pushSeen (s .seen) b → t ≡ paid s (s .frame .place + 1) (s .frame .check ⊕ b) seen 5
+    → (returned (record { state = t; answer = Quiet; count = 1 }) (set g (2000 * (s .frame .due - 1) + (s .frame .place - 3)) b) ≡ byteCall (stateOf s) g b)
+    × (t .seen ≡ seenAfter (s .seen) (b ∷ []))
+unfolding appliedTo seenAfter paid
+entered s g b h long here m e =
+    let has = here-has (s .frame) b here in
+    rw (e, m) (
+      subst (λ (d : Decided). returned (record { state = d .next; answer = d .answer; count = 1 }) (appliedTo g (d .effect) b) ≡ byteCall (stateOf s) g b)
+          (decide-here s b has) (taken s g b h long (possible-here s b has)),
+      refl,
+    )
+
 returns : tie.Need-returns
 unfolding returned byteCall replyOf seenAfter
 returns c = (simp (ne-eqb _ _ (c .if1 .taken)), refl)
 
+sub-grid : tie.Need-sub-grid
+sub-grid c =
+    let start = c .before .before .before .before .before .before in
+    let has = here-has (start .args .state .frame) (start .args .b) (sym (c .before .before .is-payload-here .ensures) ∙ c .before .if2 .taken) in
+    omega (arith, has .begun)
+
+sub-grid-2 : tie.Need-sub-grid-2
+sub-grid-2 c =
+    let start = c .before .before .before .before .before .before .before in
+    let has = here-has (start .args .state .frame) (start .args .b) (sym (c .before .before .before .is-payload-here .ensures) ∙ c .before .before .if2 .taken) in
+    omega (arith, has .past)
+
+slice-write-grid : tie.Need-slice-write-grid
+slice-write-grid c =
+    let judged = c .before .before .before in
+    let a = judged .before .before .before .before .args in
+    let has = here-has (a .state .frame) (a .b) (sym (judged .is-payload-here .ensures) ∙ c .before .before .if2 .taken) in
+    omega (arith, has .begun, has .ten, has .past, short-here (a .state .frame) (a .b) has, judged .before .before .if1 .left)
+
+add-paid-state : tie.Need-add-paid-state
+add-paid-state c =
+    let judged = c .before .before .before .before in
+    let a = judged .before .before .before .before .args in
+    let has = here-has (a .state .frame) (a .b) (sym (judged .is-payload-here .ensures) ∙ c .before .before .before .if2 .taken) in
+    omega (arith, short-here (a .state .frame) (a .b) has)
+
 returns-2 : tie.Need-returns-2
+unfolding _⊕_
+returns-2 c =
+    let test = c .before .before .before .before .before .before in
+    let judged = test .before in
+    let a = judged .before .before .before .before .args in
+    entered (a .state) (a .grid .now) (a .b) (search needs) (judged .before .before .if1 .left) (sym (judged .is-payload-here .ensures) ∙ test .if2 .taken)
+    (c .before .pushed .ensures) (c .paid-state .ensures)
+
+returns-3 : tie.Need-returns-3
 unfolding returned byteCall replyOf seenAfter
-returns-2 c = (
+returns-3 c = (
   simp (
-    eq-eqb _ _ (c .before .before .if1 .left),
-    ap not (sym (c .before .is-possible .ensures)) ∙ c .if2 .taken,
+    eq-eqb _ _ (c .before .before .before .before .before .if1 .left),
+    ap not (sym (c .before .is-possible .ensures)) ∙ c .if3 .taken,
   ),
   refl,
 )
 
-returns-3 : tie.Need-returns-3
+returns-4 : tie.Need-returns-4
 unfolding seenAfter
-returns-3 c =
+returns-4 c =
     let apply = c .before .before .before in
     let judged = apply .before .before .before in
-    let a = judged .before .before .before .before .args in
+    let long = judged .before .before .before .before .before in
+    let a = long .before .before .args in
     let d = apply .before .before .decide .ensures in
-    let possible = un-not _ (ap not (sym (judged .before .is-possible .ensures)) ∙ judged .if2 .left) in (
-      rw (apply .apply .ensures, d) (taken (a .state) (a .grid .now) (a .b) (search needs) (judged .before .before .if1 .left) possible),
+    let possible = un-not _ (ap not (sym (judged .before .is-possible .ensures)) ∙ judged .if3 .left) in (
+      rw (apply .apply .ensures, d) (taken (a .state) (a .grid .now) (a .b) (search needs) (long .if1 .left) possible),
       rw d (decide-leaf (a .state) (a .b) .2),
     )
 
@@ -60,8 +117,21 @@ byte-call-spec =
     (tie.spec
     returns
     (λ c κs. search needs)
-    returns-2
+    sub-grid
+    (λ c. search needs)
+    (λ c. search needs)
+    sub-grid-2
+    (λ c. search needs)
+    (λ c. search needs)
+    slice-write-grid
+    add-paid-state
     (λ c κs. search needs)
     (λ c κs. search needs)
     (λ c. search needs)
-    returns-3)
+    returns-2
+    (λ c κs. search needs)
+    returns-3
+    (λ c κs. search needs)
+    (λ c κs. search needs)
+    (λ c. search needs)
+    returns-4)

@@ -1,0 +1,148 @@
+-- A payload byte of the text under way: the state that it comes to is possible, and what the decision is. Assumes nothing.
+use mathlib.Core.Path.{_≡_, sym, ap, _∙_, subst}
+use mathlib.Core.Logic.{_≢_}
+use mathlib.Core.Bool.{true, false, not, and-false, true≢false}
+use Prim.Native.Nat.{ℕ, _+_, _*_, _-_, _≤_, _<_}
+use native.Mathlib.Omega.{arith}
+use lib.Dec.{eqb}
+use lib.ListN.{length}
+use borrow.Author.Tests.{eqb-true, eqb-false, eq-eqb, ne-eqb, leb-true, le-leb, ltb-true}
+use Rattle.texts.specs.Bytes.{allOf}
+use Rattle.texts.specs.Pictures.{isPictureCode}
+use Rattle.texts.specs.Kinds.{kinds, isKind, isStartKind, isEndKind, isDataKind, partOf, textNumber, kindOf, blockLength, dataBlockLength}
+use Rattle.texts.specs.DataBlock.{isPayloadByte}
+use Rattle.text_laws.proofs.KindTable.{text-back, data-block-length}
+use Rattle.text_laws.proofs.Rules.{and-split}
+use Rattle.stream.specs.State.{isDue, fitsPart, kindRead, isPossible}
+use Rattle.stream.specs.Receiver.{_⊕_}
+use Rattle.step.specs.Meaning.{seenOf, pushSeen, pushCount, stateOf}
+use Rattle.step.specs.Decide.{decide}
+use Rattle.step.specs.declared.state.Frame.{Frame}
+use Rattle.step.specs.declared.state.State.{State}
+use Rattle.step.specs.declared.state.Answer.the-variants.{Quiet}
+use Rattle.step.specs.declared.state.Effect.the-variants.{Enter}
+use Rattle.step.proofs.KindLaws.{block-most}
+use Rattle.step.proofs.SeenLaws.{length-seen}
+use Rattle.receiver.specs.Run.{paid, isPayloadHere}
+use Rattle.receiver.proofs.Runs.{not-un}
+use Rattle.receiver.proofs.Stretches.{paid-step, paid-first}
+
+-- the tests of the definition, as facts
+pub record Here (f : Frame) (b : ℕ) : Type 0 where
+  pub past : 3 ≤ f .place
+  pub begun : 1 ≤ f .due
+  pub ten : f .due ≤ 10
+  pub five : f .count ≡ 5
+  pub inside : f .place < dataBlockLength (f .part)
+  pub same : f .kind ≡ kindOf (f .part) (f .due)
+  pub known : isKind (f .kind) ≡ true
+  pub coded : isPictureCode (f .picture) ≡ true
+  pub rule : isPayloadByte (f .part) b ≡ true
+
+pub here-has : (f : Frame) (b : ℕ) → isPayloadHere f b ≡ true → Here f b
+unfolding isPayloadHere
+here-has f b h =
+    let (h1, rule) = and-split _ _ h in
+    let (h2, coded) = and-split _ _ h1 in
+    let (h3, known) = and-split _ _ h2 in
+    let (h4, same) = and-split _ _ h3 in
+    let (h5, inside) = and-split _ _ h4 in
+    let (h6, five) = and-split _ _ h5 in
+    let (h7, ten) = and-split _ _ h6 in
+    let (past, begun) = and-split _ _ h7 in
+    record {
+      past = leb-true 3 (f .place) past;
+      begun = omega (arith, eqb-false (f .due) 0 (not-un _ begun));
+      ten = leb-true (f .due) 10 ten;
+      five = eqb-true (f .count) 5 five;
+      inside = ltb-true (f .place) (dataBlockLength (f .part)) inside;
+      same = eqb-true (f .kind) (kindOf (f .part) (f .due)) same;
+      known = known;
+      coded = coded;
+      rule = rule;
+    }
+
+-- 0 is no kind
+not-zero : (k : ℕ) → isKind k ≡ true → k ≢ 0
+unfolding isKind partOf kinds
+not-zero k h z = true≢false (sym h ∙ ap isKind z)
+
+-- a kind whose number is that of a data text
+module _ (k t : ℕ) (number : textNumber k ≡ t) (one : 1 ≤ t) (ten : t ≤ 10) where
+  no-start : isStartKind k ≡ false
+  unfolding isStartKind
+  no-start = simp (number, ne-eqb t 0 (omega (arith, one)), and-false)
+
+  no-end : isEndKind k ≡ false
+  unfolding isEndKind
+  no-end = simp (number, ne-eqb t 11 (omega (arith, ten)), and-false)
+
+  data-here : isKind k ≡ true → isDataKind k ≡ true
+  unfolding isDataKind
+  data-here h = simp (h, number, ne-eqb t 0 (omega (arith, one)), ne-eqb t 11 (omega (arith, ten)))
+
+-- part and text number of the kind under way are the part open and the due text, and the block is as long as that part's
+module _ (f : Frame) (b : ℕ) (h : Here f b) where
+  due-known : isKind (kindOf (f .part) (f .due)) ≡ true
+  due-known = subst (λ k. isKind k ≡ true) (h .same) (h .known)
+
+  part-here : partOf (f .kind) ≡ f .part
+  part-here = ap partOf (h .same) ∙ text-back (f .part) (f .due) due-known .0
+
+  number-here : textNumber (f .kind) ≡ f .due
+  number-here = ap textNumber (h .same) ∙ text-back (f .part) (f .due) due-known .1
+
+  block-here : blockLength (f .kind) ≡ dataBlockLength (f .part)
+  block-here =
+      data-block-length (f .kind) (data-here (f .kind) (f .due) number-here (h .begun) (h .ten) (h .known))
+      ∙ ap dataBlockLength part-here
+
+  part-open : f .part ≢ 0
+  unfolding isKind
+  part-open z = true≢false (sym (h .known) ∙ ap (λ p. not (eqb p 0)) (part-here ∙ z))
+
+  long-here : f .place < blockLength (f .kind)
+  long-here = omega (arith, h .inside, block-here)
+
+  pub short-here : f .place < 2003
+  short-here = omega (arith, long-here, block-most (f .kind))
+
+module _ (s : State) (b : ℕ) (h : Here (s .frame) b) where
+  -- refusal 2 lets the state pass
+  pub possible-here : isPossible (stateOf s) ≡ true
+  unfolding isPossible isDue kindRead fitsPart allOf
+  possible-here =
+      let f = s .frame in
+      simp (
+        le-leb (length (seenOf (s .seen) (f .count))) 5 (omega (arith, length-seen (s .seen) (f .count), h .five)),
+        ne-eqb (f .part) 0 (part-open f b h),
+        due-known f b h,
+        ne-eqb (f .due) 0 (omega (arith, h .begun)),
+        ne-eqb (f .kind) 0 (not-zero (f .kind) (h .known)),
+        le-leb 3 (f .place) (h .past),
+        le-leb (f .place) (blockLength (f .kind) + 2) (omega (arith, long-here f b h)),
+        h .coded,
+        h .known,
+        eq-eqb (f .kind) (kindOf (f .part) (f .due)) (h .same),
+      )
+
+  count-here : pushCount (s .frame .count) ≡ 5
+  unfolding pushCount
+  count-here = rw (h .five)
+
+  -- and the byte enters the grid
+  pub decide-here :
+      decide s b
+      ≡ record {
+        next = paid s (s .frame .place + 1) (s .frame .check ⊕ b) (pushSeen (s .seen) b) 5;
+        answer = Quiet;
+        effect = Enter (2000 * (s .frame .due - 1) + (s .frame .place - 3));
+      }
+  decide-here =
+      let f = s .frame in
+      ap (λ (t : State). decide t b) (sym (paid-first s))
+      ∙ paid-step s (f .place) (f .check) (s .seen) (f .count) b
+      (no-start (f .kind) (f .due) (number-here f b h) (h .begun) (h .ten))
+      (no-end (f .kind) (f .due) (number-here f b h) (h .begun) (h .ten)) (h .past) (long-here f b h)
+      (subst (λ p. isPayloadByte p b ≡ true) (sym (part-here f b h)) (h .rule))
+      ∙ rw (count-here, number-here f b h)

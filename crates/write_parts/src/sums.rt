@@ -1,0 +1,28 @@
+// Sums over bytes, by which a few numbers show many bytes.
+
+// Adler-32 begun at 0, so that zeros have 0: a sum of the bytes, and a sum of these sums, so that a
+// byte's place tells too
+pub fn adler(bytes: &[u8]) -> u64 {
+    let mut low: u64 = 0;
+    let mut high: u64 = 0;
+    let mut i = 0;
+    while i < bytes.len() {
+        low = (low + bytes[i] as u64) % 65521;
+        high = (high + low) % 65521;
+        i += 1;
+    }
+    high * 65536 + low
+}
+
+// How many of the bytes are `b`
+pub fn count(bytes: &[u8], b: u8) -> u64 {
+    let mut n: u64 = 0;
+    let mut i = 0;
+    while i < bytes.len() {
+        if bytes[i] == b {
+            n += 1;
+        }
+        i += 1;
+    }
+    n
+}

@@ -1,0 +1,83 @@
+// The writer (01, "The writer"): one part onto the line.
+use crate::contents::end_contents;
+use crate::contents::start_contents;
+use crate::data::is_payload;
+use crate::data::write_datas;
+use crate::data::writes_no_echo;
+use crate::text::write_text;
+use headers::handed::is_handed;
+use texts::header::Heading;
+use texts::kinds::kind_of;
+use texts::kinds::part_length;
+ghost use mathlib.Core.Path.{_≡_};
+ghost use mathlib.Core.Bool.{true};
+ghost use Prim.Native.Nat.{_≤_};
+ghost use lib.ListN.{length};
+ghost use lib.Seq.{sets};
+ghost use Rattle.texts.specs.Kinds.{isPartNumber, partLength};
+ghost use Rattle.texts.specs.Part.{partBytes};
+ghost use Rattle.texts.specs.Handed.{isHanded};
+ghost use Rattle.relay.specs.Written.{isPayload, writesNoEcho, writtenPart, writes};
+ghost use Rattle.writer.specs.Returned.{sent};
+
+// The writer's answer: how many bytes it wrote, or a refusal, 31 to 34
+pub enum Wrote {
+    Bytes(usize),
+    Refused(u8),
+}
+
+// Writes a part that keeps every rule at the front of the output.
+// Notice 49, 4(1)(1-1)(a), 4(1)(1-2)(a), 4(2)(a)
+fn write_taken(
+    part: u8,
+    heading: Heading,
+    modes: [u8; 8],
+    payload: &[u8],
+    noecho: bool,
+    output: &mut [u8],
+)
+    requires { ⌜ isPartNumber part ≡ true ⌝ }
+    requires { ⌜ isHanded heading modes ≡ true ⌝ }
+    requires { ⌜ isPayload part (now payload) ≡ true ⌝ }
+    requires { ⌜ noecho ≡ writesNoEcho part (now payload) ⌝ }
+    requires { ⌜ partLength part noecho ≤ length (now output) ⌝ }
+    ensures { λ r. ⌜ now (output .exit) ≡ sets (now (output .entry)) 0 (partBytes (writtenPart part heading modes (now (payload .entry)))) ⌝ }
+{
+    let start = start_contents(noecho, heading, modes);
+    write_text(output, heading.picture, kind_of(part, 0), &start);
+    if !noecho {
+        write_datas(output, part, heading.picture, payload);
+    }
+    let end = end_contents(modes);
+    let at = part_length(part, noecho) - 40;
+    write_text(&mut output[at..], heading.picture, kind_of(part, 11), &end);
+}
+
+// The writer. Refusals in order: 31 the part, 32 header or modes, 33 the payload, 34 the output's
+// length; each leaves the output as it was.
+pub fn write_part(
+    part: u8,
+    heading: Heading,
+    modes: [u8; 8],
+    payload: &[u8],
+    output: &mut [u8],
+) -> Wrote
+    ensures { λ r. ⌜ sent r (now (output .exit)) ≡ writes part heading modes (now (payload .entry)) (now (output .entry)) ⌝ }
+{
+    if (part == 0) | (3 < part) {
+        return Wrote::Refused(31);
+    }
+    if !is_handed(heading, modes) {
+        return Wrote::Refused(32);
+    }
+    if !is_payload(part, payload) {
+        return Wrote::Refused(33);
+    }
+    let noecho = writes_no_echo(part, payload);
+    let long = part_length(part, noecho);
+    if output.len() < long {
+        return Wrote::Refused(34);
+    }
+    write_taken(part, heading, modes, payload, noecho, output);
+    Wrote::Bytes(long)
+}
