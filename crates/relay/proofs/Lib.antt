@@ -6,4 +6,5 @@ pub mod Places
 pub mod Again
 pub mod Holding
 pub mod Rewriting
+pub mod BitsKept
 pub mod Theorem
