@@ -1,0 +1,120 @@
+-- Grids that grow by one byte: counts of meshes, and grids laid over each other. Assumes nothing.
+use mathlib.Core.Path.{_≡_, refl, sym, ap, _∙_}
+use mathlib.Core.Bool.{Bool, true, false, cond, not, _&&_, _||_}
+use mathlib.Core.List.{List, [], _∷_, _++_, append-nil}
+use Prim.Native.Nat.{ℕ, zero, suc, _+_, _*_, _-_, _/_, _%_, _≤_, _<_}
+use native.Mathlib.Nat.{zero-add}
+use native.Mathlib.Omega.{arith}
+use lib.Dec.{eqb, leb, ltb}
+use lib.ListN.{length, set, take, drop}
+use lib.Seq.{sets, sets-eq, take-all, drop-length}
+use mir.Val.{boolByte}
+use borrow.Author.Tests.{eqb-true, eqb-false, leb-true, ltb-true, ltb-false, eq-eqb, ne-eqb, le-leb, lt-leb, not-false}
+use Rattle.texts.specs.Bytes.{_!_, every}
+use Rattle.texts.specs.DataBlock.{oddLevel, evenLevel, isIntensityByte, isPayloadByte}
+use Rattle.texts.specs.Part.{gridLength}
+use Rattle.texts.proofs.Longer.{sets-on}
+use Rattle.text_laws.proofs.Rules.{by-test, and-split}
+use Rattle.grids.specs.Meshes.{levelOf, countTo, higherByte, higher, isGrid}
+
+-- the payload bytes of part 1 are those of an intensity grid
+pub read : (grid : List ℕ) → every isIntensityByte grid ≡ every (isPayloadByte 1) grid
+unfolding every isPayloadByte
+read [] = refl
+read (b ∷ grid) = ap (λ t. isIntensityByte b && t) (read grid)
+
+-- a test as a number, which is at most 1
+one : (t : Bool) → boolByte t ≡ cond t 1 0
+one true = refl
+one false = refl
+
+pub one-less : (t : Bool) → boolByte t ≡ 1 - cond t 0 1
+one-less true = refl
+one-less false = refl
+
+-- two meshes a byte
+module _ (grid : List ℕ) (i : ℕ) where
+  odd : levelOf grid (suc (2 * i)) ≡ oddLevel (grid ! i)
+  unfolding levelOf
+  odd =
+      let r : suc (2 * i) % 2 ≡ 1 = omega arith in
+      let q : (suc (2 * i) - 1) / 2 ≡ i = omega arith in
+      rw (eq-eqb (suc (2 * i) % 2) 1 r, q)
+
+  even : levelOf grid (suc (suc (2 * i))) ≡ evenLevel (grid ! i)
+  unfolding levelOf
+  even =
+      let q : (suc (suc (2 * i)) - 1) / 2 ≡ i = omega arith in
+      rw (ne-eqb (suc (suc (2 * i)) % 2) 1 (λ e. omega arith), q)
+
+  pub count-on : (level : ℕ) →
+      countTo grid level (2 * i) + (boolByte (leb level (grid ! i / 16)) + boolByte (leb level (grid ! i % 16)))
+      ≡ countTo grid level (2 * (i + 1))
+  unfolding countTo oddLevel evenLevel
+  count-on level =
+      let n : 2 * (i + 1) ≡ suc (suc (2 * i)) = omega arith in
+      rw (n, odd, even, one (leb level (grid ! i / 16)), one (leb level (grid ! i % 16))) (omega arith)
+
+pub count-most : (grid : List ℕ) (level n : ℕ) → countTo grid level n ≤ n
+unfolding countTo
+count-most grid level zero = omega arith
+count-most grid level (suc n) = rw (← one, one-less) (omega (arith, count-most grid level n))
+
+-- two grids laid over each other
+length-higher : (a b : List ℕ) → length a ≡ length b → length (higher a b) ≡ length a
+unfolding higher
+length-higher [] b h = refl
+length-higher (x ∷ a) [] h = absurd (omega arith)
+length-higher (x ∷ a) (y ∷ b) h = ap suc (length-higher a b (omega arith))
+
+higher-at : (a b : List ℕ) (i : ℕ) → i < length a → i < length b → higher a b ! i ≡ higherByte (a ! i) (b ! i)
+unfolding higher
+higher-at [] b i h k = absurd (omega arith)
+higher-at (x ∷ a) [] i h k = absurd (omega arith)
+higher-at (x ∷ a) (y ∷ b) zero h k = refl
+higher-at (x ∷ a) (y ∷ b) (suc i) h k = higher-at a b i (omega arith) (omega arith)
+
+-- and put into a third: the bytes so far, and all of them
+module _ (a b c : List ℕ) (p : length a ≡ length c) (q : length b ≡ length c) where
+  pub laid-on : (i : ℕ) → i < length c
+      → set (sets c 0 (take i (higher a b))) i (higherByte (a ! i) (b ! i)) ≡ sets c 0 (take (i + 1) (higher a b))
+  laid-on i h =
+      let l : i < length (higher a b) = omega (arith, length-higher a b (p ∙ sym q)) in
+      rw (← higher-at a b i (omega arith) (omega arith))
+      (ap (λ k. set (sets c 0 (take i (higher a b))) k (higher a b ! i)) (sym (zero-add i)) ∙ sets-on (higher a b) i l c 0)
+
+  pub laid-all : (i : ℕ) → length c ≤ i → sets c 0 (take i (higher a b)) ≡ higher a b
+  laid-all i h =
+      let l : length (higher a b) ≡ length c = length-higher a b (p ∙ sym q) ∙ p in
+      ap (sets c 0) (take-all i (higher a b) (omega arith))
+      ∙ sets-eq (higher a b) c 0 (omega arith)
+      ∙ ap (λ k. higher a b ++ drop k c) (zero-add (length (higher a b)) ∙ l)
+      ∙ ap (λ k. higher a b ++ k) (drop-length c)
+      ∙ append-nil (higher a b)
+
+-- a mesh number, and three grids, by the tests of the code
+pub no-mesh : (m : ℕ) → not (leb 1 m && leb m 40000) ≡ (eqb m 0 || ltb 40000 m)
+no-mesh m =
+    by-test (eqb m 0) (λ e. rw (e, lt-leb 1 m (omega (arith, eqb-true m 0 e))))
+    (λ e. by-test (ltb 40000 m) (λ f. rw (e, f, le-leb 1 m (omega (arith, eqb-false m 0 e)), lt-leb m 40000 (omega (arith, ltb-true 40000 m f))))
+    (λ f. rw (e, f, le-leb 1 m (omega (arith, eqb-false m 0 e)), le-leb m 40000 (omega (arith, ltb-false 40000 m f)))))
+
+pub mesh-in : (m : ℕ) → (eqb m 0 || ltb 40000 m) ≡ false → (1 ≤ m) × (m ≤ 40000)
+mesh-in m h =
+    let (p, q) = and-split (leb 1 m) (leb m 40000) (not-false (leb 1 m && leb m 40000) (no-mesh m ∙ h)) in
+    (leb-true 1 m p, leb-true m 40000 q)
+
+pub no-grids : (a b c : List ℕ) → not (isGrid a && isGrid b && isGrid c) ≡ ((not (isGrid a) || not (isGrid b)) || not (isGrid c))
+no-grids a b c = not-all (isGrid a) (isGrid b) (isGrid c)
+  where
+    not-all : (x y z : Bool) → not (x && y && z) ≡ ((not x || not y) || not z)
+    not-all false y z = refl
+    not-all true false z = refl
+    not-all true true z = refl
+
+pub one-length : (a b c : List ℕ) → ((not (isGrid a) || not (isGrid b)) || not (isGrid c)) ≡ false → (length a ≡ length c) × (length b ≡ length c)
+one-length a b c h =
+    let (two, t) = and-split (isGrid a && isGrid b) (isGrid c) (not-false (isGrid a && isGrid b && isGrid c) (no-grids a b c ∙ h)) in
+    let (p, r) = and-split (isGrid a) (isGrid b) two in
+    let k = eqb-true (length c) gridLength t in
+    (eqb-true (length a) gridLength p ∙ sym k, eqb-true (length b) gridLength r ∙ sym k)

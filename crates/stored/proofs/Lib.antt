@@ -1,0 +1,4 @@
+-- The laws and the proofs of the functions. Assumes nothing.
+pub mod Hearing
+pub mod Wholly
+pub mod Payloads
