@@ -1,6 +1,7 @@
 /* The services on grids of 01-scope.md, written as plain loops in C, to be measured against. Reads grids of
  * 20,000 bytes from standard input and prints what the program grid_totals prints: for each grid how many
- * meshes are at or above levels 1, 5 and 10, and of all grids so far laid over each other, at or above 1. */
+ * meshes are at or above levels 1, 5 and 10, and of all grids so far laid over each other, at or above 1; a
+ * refused grid has its refusal in place of each number, and is not laid over the others. */
 #include <stdint.h>
 #include <stdio.h>
 #include <string.h>
@@ -44,10 +45,12 @@ static uint8_t grid[GRID], laid[2][GRID];
 
 int main(void)
 {
-    for (int turn = 0; fread(grid, 1, GRID, stdin) == GRID; turn ^= 1) {
+    for (int turn = 0; fread(grid, 1, GRID, stdin) == GRID;) {
         printf("%d %d %d ", count_from(grid, 1), count_from(grid, 5), count_from(grid, 10));
-        overlay(grid, laid[turn], laid[turn ^ 1]);
-        printf("%d\n", count_from(laid[turn ^ 1], 1));
+        int refused = overlay(grid, laid[turn], laid[turn ^ 1]);
+        if (!refused)
+            turn ^= 1;
+        printf("%d\n", refused ? refused : count_from(laid[turn], 1));
     }
     return 0;
 }

@@ -1,0 +1,166 @@
+"""01-scope.md, section "Services", as plain functions.
+
+Written from that paper alone, on texts.py and receiver.py, the models of its sections "A text" and "The
+receiver": nothing here is taken from the library or from its definitions. A grid is bytes; a mesh number,
+a level and a clock are numbers. A service gives its value, or `Refused` with the row of 01's table: "A
+service's refusal carries no value." What stands in quotes is 01's.
+
+Run as a program, it tries what 01's figures settle by hand.
+"""
+
+import sys
+from collections import namedtuple
+
+sys.dont_write_bytecode = True
+import texts
+from receiver import Receiver
+from texts import GRID, INTENSITY
+
+Refused = namedtuple("Refused", "row")
+
+# "mesh number outside 1 to 40,000"
+MESHES = range(1, 40_001)
+# "levels 0 to 14"
+LEVELS = range(15)
+# The longest text: five control bytes, a block of 2,003, and three bytes
+LONGEST = 2_011
+
+
+# ---- Grids
+
+# "two meshes a byte, the odd number in the high four bits"; "data text k (1 to 10) has meshes 4,000 ×
+# (k − 1) + 1 to 4,000 × k", and its payload stands "from byte 2,000 × (k − 1)": meshes are numbered along
+# the grid
+def level_of(grid, mesh):
+    odd, even = texts.levels(grid[(mesh - 1) // 2])
+    return odd if mesh % 2 == 1 else even
+
+
+# "an intensity grid that is read holds level 15"
+def holds_level_15(grid):
+    return any(15 in texts.levels(b) for b in set(grid))
+
+
+# "the services 42, 43, 41": the row that `grids` are refused with, of which `read` are read; None where there
+# is none. `asked` says that the mesh number or level is one
+def refusal(grids, read, asked=True):
+    if any(len(grid) != GRID for grid in grids):
+        return Refused(42)
+    if any(map(holds_level_15, read)):
+        return Refused(43)
+    return None if asked else Refused(41)
+
+
+# "Level of a mesh"
+def mesh_level(grid, mesh):
+    return refusal([grid], [grid], mesh in MESHES) or level_of(grid, mesh)
+
+
+# "count of meshes at or above a level"
+def meshes_from(grid, level):
+    return refusal([grid], [grid], level in LEVELS) or sum(level_of(grid, mesh) >= level for mesh in MESHES)
+
+
+# "overlay of two intensity grids into a third, mesh by mesh the higher": a refusal or None, and the third
+# grid after the call. "nothing touched" on a refusal; the third is not "read"
+def overlay(first, second, third):
+    refused = refusal([first, second, third], [first, second])
+    if refused is not None:
+        return refused, third
+    higher = [max(level_of(first, mesh), level_of(second, mesh)) for mesh in MESHES]
+    return None, bytes(odd * 16 + even for odd, even in zip(higher[::2], higher[1::2]))
+
+
+# "clock steps from a to b, (b − a) modulo 16,384 for every pair of 16-bit numbers"
+def clock_steps(a, b):
+    return (b - a) % 16_384
+
+
+# ---- Stored parts
+
+# "The payload of data text k of a stored part comes back ..; it is empty unless these are exactly one
+# undamaged part that has text k."
+def text_payload(data, k):
+    if not texts.undamaged_part(data):
+        return b""
+    datas = texts.split_part(data)[1:-1]
+    return datas[k - 1][3:] if 1 <= k <= len(datas) else b""
+
+
+# ---- Bytes left in the text under way
+
+# What 01 leaves free: "between the true remainder, the `FF` included, and 2,011 (between 0 and 2,011 before
+# the kind is read); with place 0 it is 0, and an impossible state gives 2"
+def bounds_of_left(receiver):
+    if receiver.refusal() != 0:
+        return Refused(2)
+    if receiver.place == 0:
+        return 0, 0
+    if receiver.kind == 0:
+        return 0, LONGEST
+    return texts.block_length(receiver.kind) + 3 - receiver.place, LONGEST
+
+
+# What the library chooses: the true remainder once the kind is read, and before that what would be left of
+# the longest text, whose block and three bytes are 2,006
+def bytes_left(receiver):
+    bounds = bounds_of_left(receiver)
+    if isinstance(bounds, Refused):
+        return bounds
+    least, most = bounds
+    left = 2_006 - receiver.place if receiver.place != 0 and receiver.kind == 0 else least
+    assert least <= left <= most
+    return left
+
+
+# Levels, counts and rows of the smallest grids that show them
+def _grids():
+    grid = b"\x1E" + bytes(GRID - 2) + b"\x7A"
+    assert [mesh_level(grid, mesh) for mesh in (1, 2, 3, 39_999, 40_000)] == [1, 14, 0, 7, 10]
+    assert [mesh_level(grid, mesh) for mesh in (0, 40_001)] == [Refused(41)] * 2
+    assert [meshes_from(grid, level) for level in (0, 1, 2, 10, 14, 15)] == [40_000, 4, 3, 2, 1, Refused(41)]
+    assert meshes_from(grid[1:], 15) == Refused(42) and meshes_from(b"\xF0" + grid[1:], 15) == Refused(43)
+    assert meshes_from(b"\x0F" + grid, 15) == Refused(42)
+    other = b"\x42" + bytes(GRID - 1)
+    assert overlay(grid, other, grid) == (None, b"\x4E" + grid[1:])
+    assert overlay(grid, other, b"\xFF" * GRID) == (None, b"\x4E" + grid[1:])
+    assert overlay(grid, other, b"") == (Refused(42), b"")
+    assert overlay(grid, b"\x0F" + grid[1:], other) == (Refused(43), other)
+
+
+def _clocks():
+    pairs = ((0, 0), (0, 1), (1, 0), (16_383, 0), (0, 16_383), (65_535, 0), (0, 65_535), (16_384, 0))
+    assert [clock_steps(a, b) for a, b in pairs] == [0, 1, 16_383, 1, 16_383, 1, 16_383, 0]
+
+
+# An intensity part whose data texts are full of their own numbers
+def _payloads():
+    header = texts.Header((1, 9, 9, 9, 0, 6, 0, 7, 1, 2, 1, 0), (0xA5, *(0,) * 7), 9983, 0xCC, 1, False)
+    payload = b"".join(bytes([k]) * 2000 for k in range(1, 11))
+    data = texts.make_part(INTENSITY, header, (1, *(0,) * 7), payload)
+    for k in range(1, 11):
+        assert text_payload(data, k) == bytes([k]) * 2000
+    for k in (0, 11, 12, 255):
+        assert text_payload(data, k) == b""
+    for bytes_given in (b"\x16" + data, data + b"\x16", data[:-1], b""):
+        assert text_payload(bytes_given, 1) == b""
+
+
+# Along a start text of 40 bytes, whose block has 32
+def _left():
+    receiver = Receiver()
+    assert bytes_left(receiver) == 0
+    left = []
+    for b in texts.OPENING + b"\xCC\x10\x00":
+        receiver.byte(b)
+        left.append(bytes_left(receiver))
+    assert left == [0, 0, 0, 0, 0, 2005, 2004, 40 - 8, 40 - 9]
+    receiver.place = 35
+    assert bytes_left(receiver) == Refused(2)
+
+
+if __name__ == "__main__":
+    _grids()
+    _clocks()
+    _payloads()
+    _left()
