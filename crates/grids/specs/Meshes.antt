@@ -16,12 +16,12 @@ meshes = 40000
 unfoldable pub levelOf : List ℕ → ℕ → ℕ
 levelOf grid mesh = cond (eqb (mesh % 2) 1) (oddLevel (grid ! ((mesh - 1) / 2))) (evenLevel (grid ! ((mesh - 1) / 2)))
 
--- how many of the first n meshes are at or above a level
+-- how many of the first n meshes are at or above a level. Notice 49, 5(3)(3-1)
 unfoldable pub countTo : List ℕ → ℕ → ℕ → ℕ
 countTo grid level zero = 0
 countTo grid level (suc n) = countTo grid level n + cond (leb level (levelOf grid (suc n))) 1 0
 
--- mesh by mesh the higher level, byte by byte
+-- mesh by mesh the higher level, byte by byte. Notice 49, 4(1)(1-1)(d)(ウ)
 unfoldable pub higherByte : ℕ → ℕ → ℕ
 higherByte a b = max (oddLevel a) (oddLevel b) * 16 + max (evenLevel a) (evenLevel b)
 
@@ -74,6 +74,6 @@ overlaid a b c =
     (cond (not (isRead a && isRead b)) (record { answer = refused 43; grid = c })
     (record { answer = done; grid = higher a b }))
 
--- Clock steps from a to b: (b − a) modulo 16,384, whatever the two numbers of 16 bits
+-- Clock steps from a to b: (b − a) modulo 16,384, whatever the two numbers of 16 bits. Notice 49, 4(1)(1-1)(d)(イ)
 unfoldable pub clockSteps : ℕ → ℕ → ℕ
 clockSteps a b = (b + 65536 - a) % 16384

@@ -28,7 +28,8 @@ fn lay(first: &[u8], second: &[u8], third: &mut [u8])
     }
 }
 
-// Overlay of two intensity grids into a third, mesh by mesh the higher level
+// Overlay of two intensity grids into a third, mesh by mesh the higher level. Refusals: 42 for the
+// length of any of the three, 43 for a level 15 in one that is read. Notice 49, 4(1)(1-1)(d)(ウ)
 pub fn overlay(first: &[u8], second: &[u8], third: &mut [u8]) -> Laid
     ensures { λ r. ⌜ laid r (now (third .exit)) ≡ overlaid (now (first .entry)) (now (second .entry)) (now (third .entry)) ⌝ }
 {

@@ -114,7 +114,8 @@ fn end_ahead(s: State, bytes: &[u8], from: usize) -> Reached
     }
 }
 
-// Past a start or end text, up to its last byte, where it stands here whole behind the opening
+// Past a start or end text, up to its last byte, where it stands here whole behind the opening.
+// Notice 49, 4(1)(1-1)(c)(ア)
 pub(crate) fn text_ahead(s: State, bytes: &[u8], from: usize) -> Reached
     requires { ⌜ from ≤ length (now bytes) ⌝ }
     ensures { λ r. ⌜ SameGrid s from (r .state) (r .at) (now (bytes .entry)) ⌝ }

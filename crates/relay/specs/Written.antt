@@ -37,7 +37,7 @@ timeText d =
     ∷ char (d ! 8) ∷ char (d ! 9) ∷ stop
     ∷ char (d ! 10) ∷ char (d ! 11) ∷ []
 
--- a block: `FD`, picture code, kind, and its bytes from byte 3 on
+-- a block: `FD`, picture code, kind, and its bytes from byte 3 on. Notice 49, 4(1)(1-1)(d)(イ)
 abbrev pub blockOf : ℕ → ℕ → List ℕ → List ℕ
 blockOf q k contents = FD ∷ q ∷ k ∷ contents
 
@@ -67,7 +67,8 @@ writtenPart p h modes payload =
       end = blockOf (h .picture) (kindOf p 11) (endContents modes);
     }
 
--- row 33: 20,000, 400 or 100 bytes by part, none of them forbidden
+-- row 33: 20,000, 400 or 100 bytes by part, none of them forbidden.
+-- Notice 49, 4(1)(1-1)(d)(ウ), 4(1)(1-2)(d)(ウ), 4(2)(d)(ウ)
 unfoldable pub isPayload : ℕ → List ℕ → Bool
 isPayload p payload = eqb (length payload) (payloadLength p) && every (isPayloadByte p) payload
 

@@ -12,7 +12,8 @@ use Rattle.stored.specs.declared.left.Left.the-variants.{Bytes, Refused}
 abbrev pub longest : ℕ
 longest = 2011
 
--- once the kind is read: what is left of the block, `FE`, check byte and `FF`
+-- once the kind is read: what is left of the block, `FE`, check byte and `FF`.
+-- Notice 49, 4(1)(1-1)(b), 4(1)(1-2)(b), 4(2)(b)
 unfoldable pub remainder : State → ℕ
 remainder s = blockLength (s .kind) + 3 - s .place
 

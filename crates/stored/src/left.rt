@@ -12,7 +12,7 @@ pub enum Left {
 }
 
 // Bytes left in the text under way, its `FF` included: 0 between texts; what the kind says once it
-// is read; the most that a text may have before
+// is read; the most that a text may have before. Notice 49, 4(1)(1-1)(b), 4(1)(1-2)(b), 4(2)(b)
 pub fn bytes_left(state: State) -> Left
     ensures { λ r. ⌜ IsLeft (stateOf state) r ⌝ }
 {

@@ -15,7 +15,8 @@ ghost use Rattle.texts.specs.Kinds.{isPartNumber, dataBlockLength, dataTexts, p
 ghost use Rattle.texts.specs.Part.{textsOf};
 ghost use Rattle.relay.specs.Written.{dataBlocks, isPayload, writesNoEcho};
 
-// Whether a part may carry this payload (01, row 33)
+// Whether a part may carry this payload (01, row 33).
+// Notice 49, 4(1)(1-1)(d)(ウ), 4(1)(1-2)(d)(ウ), 4(2)(d)(ウ)
 pub(crate) fn is_payload(part: u8, payload: &[u8]) -> bool
     ensures { λ r. ⌜ r ≡ isPayload part (now (payload .entry)) ⌝ }
 {
