@@ -2,19 +2,19 @@
 use mathlib.Core.Path.{_≡_, refl, sym, ap, _∙_}
 use mathlib.Core.Bool.{Bool, true, false, cond, not, _&&_, _||_}
 use mathlib.Core.List.{List, [], _∷_, _++_, append-nil}
-use Prim.Native.Nat.{ℕ, zero, suc, _+_, _*_, _-_, _/_, _%_, _≤_, _<_}
+use Prim.Native.Nat.{ℕ, zero, suc, _+_, _*_, _-_, _/_, _%_, _≤_, _<_, max}
 use native.Mathlib.Nat.{zero-add}
 use native.Mathlib.Omega.{arith}
 use lib.Dec.{eqb, leb, ltb}
 use lib.ListN.{length, set, take, drop}
 use lib.Seq.{sets, sets-eq, take-all, drop-length}
 use mir.Val.{boolByte}
-use borrow.Author.Tests.{eqb-true, eqb-false, leb-true, ltb-true, ltb-false, eq-eqb, ne-eqb, le-leb, lt-leb, not-false}
+use borrow.Author.Tests.{eqb-true, leb-true, eq-eqb, ne-eqb, not-false}
 use Rattle.texts.specs.Bytes.{_!_, every}
 use Rattle.texts.specs.DataBlock.{oddLevel, evenLevel, isIntensityByte, isPayloadByte}
 use Rattle.texts.specs.Part.{gridLength}
 use Rattle.texts.proofs.Longer.{sets-on}
-use Rattle.text_laws.proofs.Rules.{by-test, and-split}
+use Rattle.text_laws.proofs.Rules.{by-test, and-split, out-of}
 use Rattle.grids.specs.Meshes.{levelOf, countTo, higherByte, higher, isGrid}
 
 -- the payload bytes of part 1 are those of an intensity grid
@@ -74,6 +74,25 @@ higher-at (x ∷ a) [] i h k = absurd (omega arith)
 higher-at (x ∷ a) (y ∷ b) zero h k = refl
 higher-at (x ∷ a) (y ∷ b) (suc i) h k = higher-at a b i (omega arith) (omega arith)
 
+odd-higher : (x y : ℕ) → oddLevel (higherByte x y) ≡ max (oddLevel x) (oddLevel y)
+unfolding higherByte oddLevel evenLevel
+odd-higher x y = omega arith
+
+even-higher : (x y : ℕ) → evenLevel (higherByte x y) ≡ max (evenLevel x) (evenLevel y)
+unfolding higherByte oddLevel evenLevel
+even-higher x y = omega arith
+
+-- 01's overlay, mesh by mesh: the higher of the two levels
+pub mesh-higher : (a b : List ℕ) (mesh : ℕ) → length a ≡ gridLength → length b ≡ gridLength → 1 ≤ mesh → mesh ≤ 40000
+    → levelOf (higher a b) mesh ≡ max (levelOf a mesh) (levelOf b mesh)
+unfolding levelOf
+mesh-higher a b mesh p q l m =
+    by-test (eqb (mesh % 2) 1) (λ e. rw (e, byte) (odd-higher (a ! ((mesh - 1) / 2)) (b ! ((mesh - 1) / 2))))
+    (λ e. rw (e, byte) (even-higher (a ! ((mesh - 1) / 2)) (b ! ((mesh - 1) / 2))))
+  where
+    byte : higher a b ! ((mesh - 1) / 2) ≡ higherByte (a ! ((mesh - 1) / 2)) (b ! ((mesh - 1) / 2))
+    byte = higher-at a b ((mesh - 1) / 2) (omega arith) (omega arith)
+
 -- and put into a third: the bytes so far, and all of them
 module _ (a b c : List ℕ) (p : length a ≡ length c) (q : length b ≡ length c) where
   pub laid-on : (i : ℕ) → i < length c
@@ -94,10 +113,7 @@ module _ (a b c : List ℕ) (p : length a ≡ length c) (q : length b ≡ length
 
 -- a mesh number, and three grids, by the tests of the code
 pub no-mesh : (m : ℕ) → not (leb 1 m && leb m 40000) ≡ (eqb m 0 || ltb 40000 m)
-no-mesh m =
-    by-test (eqb m 0) (λ e. rw (e, lt-leb 1 m (omega (arith, eqb-true m 0 e))))
-    (λ e. by-test (ltb 40000 m) (λ f. rw (e, f, le-leb 1 m (omega (arith, eqb-false m 0 e)), lt-leb m 40000 (omega (arith, ltb-true 40000 m f))))
-    (λ f. rw (e, f, le-leb 1 m (omega (arith, eqb-false m 0 e)), le-leb m 40000 (omega (arith, ltb-false 40000 m f)))))
+no-mesh = out-of 40000
 
 pub mesh-in : (m : ℕ) → (eqb m 0 || ltb 40000 m) ≡ false → (1 ≤ m) × (m ≤ 40000)
 mesh-in m h =

@@ -6,7 +6,7 @@ use Prim.Native.Nat.{ℕ, _+_, _*_, _-_, _≤_, _<_}
 use native.Mathlib.Omega.{arith}
 use lib.Dec.{eqb}
 use lib.ListN.{length}
-use borrow.Author.Tests.{eqb-true, eqb-false, eq-eqb, ne-eqb, leb-true, le-leb, ltb-true}
+use borrow.Author.Tests.{eqb-true, eqb-false, eq-eqb, ne-eqb, leb-true, le-leb, ltb-true, not-true}
 use Rattle.texts.specs.Bytes.{allOf}
 use Rattle.texts.specs.Pictures.{isPictureCode}
 use Rattle.texts.specs.Kinds.{kinds, isKind, isStartKind, isEndKind, isDataKind, partOf, textNumber, kindOf, blockLength, dataBlockLength}
@@ -24,7 +24,6 @@ use Rattle.step.specs.declared.state.Effect.the-variants.{Enter}
 use Rattle.step.proofs.KindLaws.{block-most}
 use Rattle.step.proofs.SeenLaws.{length-seen}
 use Rattle.receiver.specs.Run.{paid, isPayloadHere}
-use Rattle.receiver.proofs.Runs.{not-un}
 use Rattle.receiver.proofs.Stretches.{paid-step, paid-first}
 
 -- the tests of the definition, as facts
@@ -52,7 +51,7 @@ here-has f b h =
     let (past, begun) = and-split _ _ h7 in
     record {
       past = leb-true 3 (f .place) past;
-      begun = omega (arith, eqb-false (f .due) 0 (not-un _ begun));
+      begun = omega (arith, eqb-false (f .due) 0 (not-true _ begun));
       ten = leb-true (f .due) 10 ten;
       five = eqb-true (f .count) 5 five;
       inside = ltb-true (f .place) (dataBlockLength (f .part)) inside;

@@ -1,6 +1,6 @@
 -- The bytes of a slice, one by one, in the code's terms; and that this is `stream`'s feed. Assumes nothing.
 use mathlib.Core.Path.{_≡_, refl, sym, ap, _∙_, subst}
-use mathlib.Core.Bool.{Bool, true, false, cond, not, _||_, true≢false}
+use mathlib.Core.Bool.{true, false, cond}
 use mathlib.Core.List.{List, [], _∷_}
 use Prim.Native.Nat.{ℕ, zero, suc, _+_, _≤_, _<_}
 use native.Mathlib.Numerals.{add-one}
@@ -87,18 +87,6 @@ run-seen s g (b ∷ bytes) i small =
     (by-test (isQuiet (decide s b .answer))
     (λ q. rw (q, sym quiet ∙ q) (run-seen (decide s b .next) (applied g (decide s b .effect) b) bytes (i + 1) (λ j. small (suc j)) ∙ rw seen))
     (λ q. rw (q, sym quiet ∙ q) seen))
-
-pub neither : (a b : Bool) → (a || b) ≡ false → (a ≡ false) × (b ≡ false)
-neither true b e = absurd (true≢false e)
-neither false b e = (refl, e)
-
-pub not-un : (t : Bool) → not t ≡ true → t ≡ false
-not-un true e = sym e
-not-un false e = refl
-
-pub un-not : (t : Bool) → not t ≡ false → t ≡ true
-un-not true e = refl
-un-not false e = sym e
 
 -- on a grid of 20,000 bytes an effect is the decision's
 pub applied-here : (g : List ℕ) (e : Effect) (b : ℕ) → length g ≡ gridLength → appliedTo g e b ≡ applied g e b

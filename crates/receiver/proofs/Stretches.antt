@@ -7,15 +7,15 @@ use Prim.Native.Nat.{ℕ, _+_, _*_, _-_, _≤_, _<_}
 use native.Mathlib.Omega.{arith}
 use lib.Dec.{eqb, ltb}
 use lib.ListN.{length, getD, set, drop, length-set}
-use borrow.Author.Tests.{eqb-true, eqb-false, eq-eqb, ne-eqb, lt-ltb}
-use Rattle.texts.specs.Bytes.{same}
+use borrow.Author.Tests.{eqb-true, eqb-false, eq-eqb, ne-eqb, lt-ltb, not-true}
 use Rattle.texts.specs.Text.{FD}
 use Rattle.texts.specs.Kinds.{isStartKind, isEndKind, partOf, textNumber, blockLength}
 use Rattle.texts.specs.DataBlock.{isPayloadByte}
 use Rattle.text_laws.proofs.Payload.{payload-below}
-use Rattle.stream.specs.Seen.{endsOpening, dueByte}
+use Rattle.stream.specs.Seen.{dueByte}
 use Rattle.stream.specs.Contents.{takesByte}
 use Rattle.stream.specs.Receiver.{_⊕_}
+use Rattle.stream.proofs.Opening.{only-FD}
 use Rattle.step.specs.Meaning.{seenOf, pushSeen, pushCount}
 use Rattle.step.specs.Decide.{frame, withFrame, quietly, betweenTexts, gapDecided, withinText, advanced, enteredByte, blockDecided, textDecided, pushedState, decide, applied}
 use Rattle.step.specs.declared.state.State.{State}
@@ -24,12 +24,7 @@ use Rattle.step.specs.declared.state.Effect.the-variants.{Keep, Enter}
 use Rattle.receiver.specs.Returned.{isQuiet}
 use Rattle.text_laws.proofs.Rules.{and-split}
 use Rattle.receiver.specs.Run.{run, Same, SameGrid, paid, waiting, isIdle, isGap}
-use Rattle.receiver.proofs.Runs.{run-quiet, same-trans, not-un}
-
--- an opening ends with `FD` only
-pub no-opening : (seen : List ℕ) (b : ℕ) → eqb b FD ≡ false → endsOpening seen b ≡ false
-unfolding endsOpening same
-no-opening seen b e = rw e
+use Rattle.receiver.proofs.Runs.{run-quiet, same-trans}
 
 -- where payload byte `place` of a kind's block enters the grid
 abbrev pub spot : ℕ → ℕ → ℕ
@@ -45,7 +40,7 @@ module _ (s : State) (place check seen count b : ℕ)
   unfolding decide pushedState textDecided blockDecided takesByte enteredByte advanced withinText paid
   paid-step =
       simp (
-        no-opening (seenOf seen count) b (ne-eqb b FD (λ e. omega (arith, e, payload-below _ b rule))),
+        only-FD (seenOf seen count) b (λ e. omega (arith, e, payload-below _ b rule)),
         ne-eqb place 0 (omega (arith, three)),
         ne-eqb place 1 (omega (arith, three)),
         ne-eqb place 2 (omega (arith, three)),
@@ -136,7 +131,7 @@ module _ (s : State) where
       let (h3, kind) = and-split _ _ h2 in
       let (place, part) = and-split _ _ h3 in (
         eqb-true (f .place) 0 place,
-        eqb-false (f .part) 0 (not-un _ part),
+        eqb-false (f .part) 0 (not-true _ part),
         eqb-true (f .kind) 0 kind,
         eqb-true (f .picture) 0 picture,
         eqb-true (f .check) 0 check,
@@ -148,9 +143,9 @@ between-step : (s : State) (seen count b : ℕ) → eqb b FD ≡ false
     → decide (waiting s seen count) b ≡ record { next = waiting s (pushSeen seen b) (pushCount count); answer = Quiet; effect = Keep }
 unfolding decide pushedState gapDecided quietly betweenTexts waiting
 between-step s seen count b e (inl (part, due)) =
-    simp (no-opening (seenOf seen count) b e, part, due)
+    simp (only-FD (seenOf seen count) b (eqb-false b FD e), part, due)
 between-step s seen count b e (inr (part, due)) =
-    simp (no-opening (seenOf seen count) b e, ne-eqb (s .frame .part) 0 part, eq-eqb b (dueByte (seenOf seen count)) due)
+    simp (only-FD (seenOf seen count) b (eqb-false b FD e), ne-eqb (s .frame .part) 0 part, eq-eqb b (dueByte (seenOf seen count)) due)
 
 -- a stretch between texts with one byte more, under the names that the code has for its parts
 pub between-on :

@@ -26,6 +26,10 @@ replyOf (Refused n) = refused n
 unfoldable pub returned : Got → List ℕ → Received
 returned r g = record { reply = replyOf (r .answer); count = r .count; state = stateOf (r .state); grid = g }
 
+-- a refusal: the state as it was, and nothing taken
+abbrev pub refusal : State → ℕ → Got
+refusal s n = record { state = s; answer = Refused n; count = 0 }
+
 -- the number that holds the bytes seen, after these bytes
 unfoldable pub seenAfter : ℕ → List ℕ → ℕ
 seenAfter v [] = v

@@ -23,7 +23,7 @@ ghost use Rattle.stream.specs.State;
 ghost use Rattle.stream.specs.Calls.{byteCall, sliceCall};
 ghost use Rattle.step.specs.Decide.{numberOf};
 ghost use Rattle.step.specs.Meaning.{stateOf};
-ghost use Rattle.receiver.specs.Returned.{returned, seenAfter, isQuiet};
+ghost use Rattle.receiver.specs.Returned.{returned, refusal, seenAfter, isQuiet};
 
 // What a call returns: the state, the answer and how many bytes it took
 pub struct Got {
@@ -60,6 +60,17 @@ pub fn fresh() -> State
     }
 }
 
+// A refusal: the state as it was, and nothing taken
+fn refused(state: State, number: u8) -> Got
+    ensures { λ r. ⌜ r ≡ refusal state number ⌝ }
+{
+    Got {
+        state,
+        answer: Answer::Refused(number),
+        count: 0,
+    }
+}
+
 // The byte call. Inside a payload, where most bytes are, it goes by fewer tests.
 // Notice 49, 4(1)(1-1)(c)(エ), 4(1)(1-2)(c)(エ), 4(2)(c)(エ)
 pub fn byte_call(state: State, grid: &mut [u8], b: u8) -> Got
@@ -67,11 +78,7 @@ pub fn byte_call(state: State, grid: &mut [u8], b: u8) -> Got
     ensures { λ r. ⌜ r .state .seen ≡ seenAfter (state .seen) (take (r .count) (b ∷ [])) ⌝ }
 {
     if grid.len() != 20000 {
-        return Got {
-            state,
-            answer: Answer::Refused(1),
-            count: 0,
-        };
+        return refused(state, 1);
     }
     let f = state.frame;
     if is_payload_here(f, b) {
@@ -83,11 +90,7 @@ pub fn byte_call(state: State, grid: &mut [u8], b: u8) -> Got
         };
     }
     if !is_possible(state) {
-        return Got {
-            state,
-            answer: Answer::Refused(2),
-            count: 0,
-        };
+        return refused(state, 2);
     }
     let d = decide(state, b);
     let effect = d.effect;
@@ -135,18 +138,10 @@ pub fn slice_call(state: State, grid: &mut [u8], bytes: &[u8]) -> Got
     ensures { λ r. ⌜ r .state .seen ≡ seenAfter (state .seen) (take (r .count) (now (bytes .entry))) ⌝ }
 {
     if grid.len() != 20000 {
-        return Got {
-            state,
-            answer: Answer::Refused(1),
-            count: 0,
-        };
+        return refused(state, 1);
     }
     if !is_possible(state) {
-        return Got {
-            state,
-            answer: Answer::Refused(2),
-            count: 0,
-        };
+        return refused(state, 2);
     }
     let first = past_stretch(state, grid, bytes, 0);
     let mut s = first.state;

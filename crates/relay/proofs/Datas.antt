@@ -37,18 +37,15 @@ counts : (dataTexts 1 false ≡ 10) × (dataTexts 2 false ≡ 1) × (dataTexts 3
 unfolding dataTexts
 counts = (refl, refl, refl)
 
+only : (k : ℕ) → 1 ≤ k → k ≤ 1 → 1 ≡ k
+only k a b = omega arith
+
 fitting : {p : ℕ} (k : ℕ) → OneToThree p → 1 ≤ k → k ≤ dataTexts p false → fits p k ≡ true
 fitting k one a b =
     let small : k < 11 = omega (arith, counts .0) in
     subst (λ t. t || fits 1 k ≡ true) (ne-eqb k 0 (λ e. omega arith)) (ten k small)
 fitting k two a b = subst (λ k. fits 2 k ≡ true) (only k a (omega (arith, counts .1))) (single .0)
-  where
-    only : (k : ℕ) → 1 ≤ k → k ≤ 1 → 1 ≡ k
-    only k a b = omega arith
 fitting k three a b = subst (λ k. fits 3 k ≡ true) (only k a (omega (arith, counts .2))) (single .1)
-  where
-    only : (k : ℕ) → 1 ≤ k → k ≤ 1 → 1 ≡ k
-    only k a b = omega arith
 
 pub data-kinds : {p : ℕ} (k : ℕ) → OneToThree p → 1 ≤ k → k ≤ dataTexts p false
     → (isDataKind (kindOf p k) ≡ true) × (partOf (kindOf p k) ≡ p) × (blockLength (kindOf p k) ≡ dataBlockLength p)

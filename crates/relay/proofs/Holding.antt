@@ -3,21 +3,21 @@ use mathlib.Core.Path.{_≡_, refl, sym, ap, _∙_, subst}
 use mathlib.Core.Bool.{Bool, true, false, not, _&&_}
 use mathlib.Core.List.{List, [], _∷_, _++_}
 use Prim.Native.Nat.{ℕ, zero, suc, _+_, _*_, _-_, _≤_}
-use native.Mathlib.Nat.{mul-le-mul-right, le-refl}
+use native.Mathlib.Nat.{mul-le-mul-right}
 use native.Mathlib.Omega.{arith}
-use lib.Dec.{eqb, leb, lit≤}
+use lib.Dec.{eqb, leb}
 use lib.ListN.{length, take, drop, length-drop}
 use lib.Seq.{length-take-le, take-append-add}
-use borrow.Author.Tests.{eqb-true, eqb-false, leb-true, eq-eqb, le-leb}
+use borrow.Author.Tests.{eqb-true, leb-true, eq-eqb, le-leb}
 use Rattle.texts.specs.Bytes.{_!_, bit, isIn, every, allOf}
-use Rattle.texts.specs.Kinds.{isKind, isPartNumber, partOf, dataBlockLength, dataTexts, payloadLength}
+use Rattle.texts.specs.Kinds.{isKind, isPartNumber, partOf, dataBlockLength, payloadLength}
 use Rattle.texts.specs.StartBlock.{oneOf, modeOf, hasMode, isClockByte, clockOf, digitsOf, timeTextOf, radarsOf, noEchoOf, headerOf}
 use Rattle.texts.specs.DataBlock.{isIntensityByte, isTopByte, isQualityByte, oddLevel, evenLevel, isPayloadByte, payloadOf}
 use Rattle.texts.specs.EndBlock.{radarPlaces, isModeByte, modesOf}
 use Rattle.texts.specs.Part.{Part, inOrder, isPart, gridLength, payloadsOf, zeros, gridOf, partHeader, partModes}
 use Rattle.texts.specs.Handed.{headingOf, isModeFor, areModesFor, isHeading, isHanded}
 use Rattle.text_laws.proofs.Rules.{by-test, never, and-split, and-join, every-in}
-use Rattle.text_laws.proofs.KindTable.{kind-part, text-back, data-is-kind, start-is-kind}
+use Rattle.text_laws.proofs.KindTable.{kind-part, text-back, data-is-kind, start-is-kind, by-part, most-texts}
 use Rattle.text_laws.proofs.Blocks.{StartRules, start-rules, data-rules, EndRules, end-rules, PartRules, part-rules}
 use Rattle.text_laws.proofs.Parts.{data-sized, order-split, payloads-length, payload-fits, grid-length}
 use Rattle.relay.specs.Written.{isPayload}
@@ -44,30 +44,10 @@ every-append test (x ∷ xs) ys h g =
     let (a, b) = and-split (test x) (every test xs) h in
     and-join a (every-append test xs ys b g)
 
--- ---- the three parts
-
-pub by-part : {P : Type 0} (p : ℕ) → isPartNumber p ≡ true → (p ≡ 1 → P) → (p ≡ 2 → P) → (p ≡ 3 → P) → P
-unfolding isPartNumber
-by-part p h one two three =
-    let (low, high) = and-split (leb 1 p) (leb p 3) h in
-    by-test (eqb p 1) (λ e. one (eqb-true p 1 e))
-    (λ e. by-test (eqb p 2) (λ f. two (eqb-true p 2 f))
-    (λ f. by-test (eqb p 3) (λ g. three (eqb-true p 3 g))
-    (λ g. absurd (three-only (leb-true 1 p low) (leb-true p 3 high) (eqb-false p 1 e) (eqb-false p 2 f) (eqb-false p 3 g)))))
-  where
-    three-only : 1 ≤ p → p ≤ 3 → (p ≡ 1 → ⊥) → (p ≡ 2 → ⊥) → (p ≡ 3 → ⊥) → ⊥
-    three-only l m a b c = omega arith
-
 -- 00 is a payload byte of every part
 zero-allowed : (p : ℕ) → isPartNumber p ≡ true → isPayloadByte p 0 ≡ true
 unfolding isPayloadByte isIntensityByte isTopByte isQualityByte oddLevel evenLevel
-zero-allowed p h = by-part p h (λ e. rw e) (λ e. rw e) (λ e. rw e)
-
--- no part has more data texts than without NO ECHO
-most-texts : (p : ℕ) (noEcho : Bool) → dataTexts p noEcho ≤ dataTexts p false
-unfolding dataTexts
-most-texts p false = le-refl (dataTexts p false)
-most-texts p true = by-test (eqb p 3) (λ e. rw e (lit≤ tt)) (λ e. rw e (omega arith))
+zero-allowed = by-part (λ p. isPayloadByte p 0 ≡ true) refl refl refl
 
 -- ---- clock and modes
 

@@ -1,14 +1,14 @@
 -- The blocks that are written keep their rules, and what was handed in is read off them again. Assumes nothing.
 use mathlib.Core.Path.{_≡_, refl, sym, ap, ap₂, _∙_, subst}
 use mathlib.Core.Logic.{_⊎_, inl, inr}
-use mathlib.Core.Bool.{Bool, true, false, cond, not, _&&_}
+use mathlib.Core.Bool.{Bool, true, false, cond, _&&_}
 use mathlib.Core.List.{List, [], _∷_, _++_, map}
 use Prim.Native.Nat.{ℕ, suc, _+_, _*_, _-_, _/_, _%_, _≤_, _<_, max}
 use native.Mathlib.Omega.{arith}
 use lib.Dec.{eqb, leb, lit≤}
 use lib.ListN.{length, take, drop}
 use lib.Seq.{take-all}
-use borrow.Author.Tests.{eqb-true, eqb-false, leb-true, eq-eqb, ne-eqb, le-leb}
+use borrow.Author.Tests.{eqb-true, eqb-false, leb-true, eq-eqb, ne-eqb, le-leb, not-true}
 use Rattle.texts.specs.Bytes.{_!_, isIn, every, allOf, bit}
 use Rattle.texts.specs.Text.{FD}
 use Rattle.texts.specs.Pictures.{isPictureCode}
@@ -120,11 +120,7 @@ in-places = same-tests 8 (λ i. isIn i radarPlaces) (λ _. true) tt
 
 radar-first : (radars : List ℕ) → isRadarList radars ≡ true → eqb (radars ! 0) 0 ≡ false
 unfolding isRadarList
-radar-first radars h = not-false (eqb (radars ! 0) 0) (rule-at _ h 1)
-  where
-    not-false : (t : Bool) → not t ≡ true → t ≡ false
-    not-false true e = sym e
-    not-false false e = refl
+radar-first radars h = not-true (eqb (radars ! 0) 0) (rule-at _ h 1)
 
 some-mode : (radar m : ℕ) → eqb radar 0 ≡ false → isModeFor radar m ≡ true → 1 ≤ m
 unfolding isModeFor

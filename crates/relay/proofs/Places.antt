@@ -1,7 +1,7 @@
 -- Lists that agree but at some places, and texts and parts with bytes put at places. Assumes nothing.
 use mathlib.Core.Path.{_≡_, refl, sym, ap, ap₂, _∙_}
 use mathlib.Core.Logic.{_≢_}
-use mathlib.Core.Bool.{Bool, true, false, _||_, or-assoc}
+use mathlib.Core.Bool.{false, _||_, or-assoc}
 use mathlib.Core.List.{List, [], _∷_, _++_, map}
 use Prim.Native.Nat.{ℕ, zero, suc, _+_, _≤_, _<_}
 use native.Mathlib.Omega.{arith}
@@ -13,14 +13,11 @@ use Rattle.texts.specs.Bytes.{_!_, isIn}
 use Rattle.texts.specs.Text.{controlA, controlB, textOf}
 use Rattle.texts.specs.Part.{Part, textsOf, partBytes}
 use Rattle.texts.proofs.Tests.{places}
-use Rattle.text_laws.proofs.Rules.{by-test, never}
+use Rattle.text_laws.proofs.Rules.{by-test, neither}
 use Rattle.text_laws.proofs.Framing.{text-length}
+use Rattle.text_laws.proofs.Openings.{block-at}
 
 -- ---- places that are none of some
-
-pub neither : (a b : Bool) → a || b ≡ false → (a ≡ false) × (b ≡ false)
-neither true b h = never h refl
-neither false b h = (refl, h)
 
 in-append : (i : ℕ) (js ks : List ℕ) → isIn i (js ++ ks) ≡ (isIn i js || isIn i ks)
 unfolding isIn
@@ -104,18 +101,13 @@ text-agrees block n vs i l h =
         (λ _. sets-other block n vs j a)
         (λ k f. control-agrees (sets block n vs) block k (λ g. not-that j 33 b (omega (arith, length-sets block n vs))))
 
--- a text's byte of its block
-pub text-at : (block : List ℕ) (i : ℕ) → i < length block → textOf block ! (5 + i) ≡ block ! i
-unfolding textOf
-text-at block i h = getD-append-add controlA (block ++ controlB block) i 0 ∙ List·getD-append block (controlB block) 0 i h
-
 -- ---- a part
 
 pub start-byte-at : (part : Part) (i : ℕ) → i < length (part .start) → partBytes part ! (5 + i) ≡ part .start ! i
 unfolding partBytes
 start-byte-at part i h =
     List·getD-append (textOf (part .start)) (textsOf (part .datas) ++ textOf (part .end)) 0 (5 + i) (omega (arith, text-length (part .start)))
-    ∙ text-at (part .start) i h
+    ∙ block-at (part .start) i h
 
 pub end-byte-at : (part : Part) (n i : ℕ) → n ≡ length (textOf (part .start)) + length (textsOf (part .datas)) → i < length (part .end)
     → partBytes part ! (n + (5 + i)) ≡ part .end ! i
@@ -125,7 +117,7 @@ end-byte-at part n i e h =
     ap (λ m. (textOf (part .start) ++ (textsOf (part .datas) ++ textOf (part .end))) ! m) place
     ∙ getD-append-add (textOf (part .start)) (textsOf (part .datas) ++ textOf (part .end)) (length (textsOf (part .datas)) + (5 + i)) 0
     ∙ getD-append-add (textsOf (part .datas)) (textOf (part .end)) (5 + i) 0
-    ∙ text-at (part .end) i h
+    ∙ block-at (part .end) i h
 
 pub bytes-long : (part : Part) → length (partBytes part) ≡ length (textOf (part .start)) + length (textsOf (part .datas)) + length (textOf (part .end))
 unfolding partBytes

@@ -9,7 +9,7 @@ use native.Mathlib.Omega.{arith}
 use lib.Dec.{eqb, lit≤}
 use lib.ListN.{length, getD, take, drop, replicate, length-append}
 use lib.Seq.{take-suc, take-all, length-take-le}
-use borrow.Author.Tests.{eqb-true}
+use borrow.Author.Tests.{eqb-true, not-true}
 use Rattle.texts.specs.Bytes.{_!_, every}
 use Rattle.texts.specs.Kinds.{isPartNumber, partOf, kindOf, dataBlockLength, dataTexts, partLength, payloadLength}
 use Rattle.texts.specs.StartBlock.{noEchoOf, modeOf, radarsOf, isStartBlock, headerOf}
@@ -19,6 +19,7 @@ use Rattle.texts.specs.Part.{Part, partBytes, inOrder, startPart, dataTextsAfte
 use Rattle.texts.specs.declared.header.Header.{Header}
 use Rattle.texts.specs.declared.header.Heading.{Heading}
 use Rattle.text_laws.proofs.Rules.{by-test, and-split}
+use Rattle.text_laws.proofs.KindTable.{most-texts, no-texts}
 use Rattle.text_laws.proofs.Blocks.{PartRules, part-keeps}
 use Rattle.text_laws.proofs.Parts.{part-length, payload-fits}
 use Rattle.stream.specs.Calls.{Call, onGrid, byte, received, singly}
@@ -30,22 +31,6 @@ use Rattle.relay.specs.Written.{writesNoEcho, statusByte, blockOf, start
 use Rattle.relay.specs.Demand2.{Taken, written, writtenHeader, ReadsBack}
 use Rattle.relay.proofs.Kept.{OneToThree, one, two, three, part-is, kind-edges, picture, top-mode, mode-back, start-kept, start-header, status-back, end-kept, end-modes}
 use Rattle.relay.proofs.Datas.{data-order, data-count, data-payloads}
-
--- no part has more data texts with NO ECHO than without, and only quality has as many
-pub fewer : {p : ℕ} → OneToThree p → (e : Bool) → dataTexts p e ≤ dataTexts p false
-unfolding dataTexts
-fewer is false = omega arith
-fewer one true = lit≤ tt
-fewer two true = lit≤ tt
-fewer three true = lit≤ tt
-
-not-false : (t : Bool) → not t ≡ true → t ≡ false
-not-false true e = sym e
-not-false false e = refl
-
-none : (p : ℕ) → eqb p 3 ≡ false → dataTexts p true ≡ 0
-unfolding dataTexts
-none p f = rw f
 
 grid-of : (start : List ℕ) (datas : List (List ℕ)) (end : List ℕ)
     → gridOf (record { start = start; datas = datas; end = end }) ≡ payloadsOf datas ++ zeros (gridLength - length (payloadsOf datas))
@@ -136,8 +121,8 @@ module _ (p : ℕ) (h : Heading) (modes payload : List ℕ) (t : Taken p h modes
 
   ordered : inOrder (h .picture) p 1 datas ≡ true
   ordered =
-      data-order p (h .picture) is (picture p h modes payload t) (dataTexts p e) 1 payload (omega arith) (omega (arith, fewer is e))
-      (omega (arith, sized, mul-le-mul-right (dataBlockLength p - 3) (fewer is e))) ruled
+      data-order p (h .picture) is (picture p h modes payload t) (dataTexts p e) 1 payload (omega arith) (omega (arith, most-texts p e))
+      (omega (arith, sized, mul-le-mul-right (dataBlockLength p - 3) (most-texts p e))) ruled
 
   this-kept : isPart this ≡ true
   this-kept =
@@ -178,7 +163,7 @@ module _ (p : ℕ) (h : Heading) (modes payload : List ℕ) (t : Taken p h modes
       silence : not (eqb p 3) && every (λ b. eqb b 0) payload ≡ true → (dataTexts p e ≡ dataTexts p false) ⊎ ((dataTexts p e ≡ 0) × (every (λ b. eqb b 0) payload ≡ true))
       silence s =
           let (other, blank) = and-split (not (eqb p 3)) (every (λ b. eqb b 0) payload) s in
-          inr (ap (dataTexts p) s ∙ none p (not-false (eqb p 3) other), blank)
+          inr (ap (dataTexts p) s ∙ no-texts p (not-true (eqb p 3) other), blank)
 
   grid-is : gridOf (writtenPart p h modes payload) ≡ payload ++ zeros (gridLength - length payload)
   grid-is = ap gridOf is-this ∙ filled which

@@ -8,21 +8,24 @@ use lib.Dec.{eqb, lit≤}
 use lib.ListN.{length}
 use lib.Seq.{sets, length-sets}
 use borrow.Author.Tests.{eqb-true, not-true}
-use Rattle.texts.specs.Bytes.{_!_, bit, isIn, every}
+use Rattle.texts.specs.Bytes.{_!_, isIn, every}
 use Rattle.texts.specs.Text.{textOf}
 use Rattle.texts.specs.Kinds.{isPartNumber, dataTexts, payloadLength}
 use Rattle.texts.specs.StartBlock.{noEchoOf, modeByte, clockBytes, radarsOf, headerOf}
 use Rattle.texts.specs.EndBlock.{modesOf}
 use Rattle.texts.specs.Part.{Part, textsOf, partBytes, dataTextsAfter, isPart, UndamagedPart, payloadsOf, zeros, partModes}
 use Rattle.texts.proofs.Tests.{places}
-use Rattle.text_laws.proofs.Rules.{by-test, and-split}
+use Rattle.texts.proofs.Longer.{far}
+use Rattle.text_laws.proofs.Rules.{by-test, and-split, neither}
+use Rattle.text_laws.proofs.KindTable.{by-part, no-texts}
 use Rattle.text_laws.proofs.Framing.{text-length}
-use Rattle.text_laws.proofs.Blocks.{start-rules, end-rules, PartRules, part-rules}
+use Rattle.text_laws.proofs.Blocks.{PartRules, part-rules}
+use Rattle.text_laws.proofs.Parts.{start-long, end-long}
 use Rattle.relay.specs.Written.{writesNoEcho, statusByte, timeText, blockOf, startContents, endContents, dataBlocks, writtenPart}
-use Rattle.relay.specs.Demand2.{heldPart, heldPayload, rewrittenPart, cameBlank, endAt, startPlaces, endPlaces, mayDiffer, plainStatus, plainMode, isPlain, Rewritten}
-use Rattle.relay.proofs.Places.{neither, in-shifted, append-agrees, sets-at, sets-same, text-agrees, start-byte-at, end-byte-at, bytes-long}
+use Rattle.relay.specs.Demand2.{heldPart, heldPayload, rewrittenPart, cameBlank, endAt, startPlaces, endPlaces, mayDiffer, plainStatus, plainMode, isPlain, blankStart, blankEnd, Rewritten}
+use Rattle.relay.proofs.Places.{in-shifted, append-agrees, sets-at, sets-same, text-agrees, start-byte-at, end-byte-at, bytes-long}
 use Rattle.relay.proofs.Again.{start-again, end-again, datas-again}
-use Rattle.relay.proofs.Holding.{every-zeros, by-part, is-part-number, held-payload, radars-long, held-taken}
+use Rattle.relay.proofs.Holding.{every-zeros, is-part-number, held-payload, radars-long, held-taken}
 
 -- ---- how many data texts
 
@@ -34,12 +37,7 @@ texts-plain p noEcho = by-test (eqb p 3) (λ e. rw e) (λ e. rw (e, and-true noE
 -- a part without NO ECHO has data texts
 some-texts : (p : ℕ) → isPartNumber p ≡ true → eqb (dataTexts p false) 0 ≡ false
 unfolding dataTexts
-some-texts p h = by-part p h (λ e. rw e) (λ e. rw e) (λ e. rw e)
-
--- intensity and top with NO ECHO have none
-no-texts : (p : ℕ) → eqb p 3 ≡ false → dataTexts p true ≡ 0
-unfolding dataTexts
-no-texts p h = rw h
+some-texts = by-part (λ p. eqb (dataTexts p false) 0 ≡ false) refl refl refl
 
 no-payloads : (blocks : List (List ℕ)) → length blocks ≡ 0 → payloadsOf blocks ≡ []
 unfolding payloadsOf
@@ -54,10 +52,7 @@ map-place f n (suc m) zero h = ap f (first n)
   where
     first : (n : ℕ) → n ≡ n + 0
     first n = omega arith
-map-place f n (suc m) (suc i) h = map-place f (suc n) m i (omega arith) ∙ ap f (next n i)
-  where
-    next : (n i : ℕ) → suc n + i ≡ n + suc i
-    next n i = omega arith
+map-place f n (suc m) (suc i) h = map-place f (suc n) m i (omega arith) ∙ ap f (far n i)
 
 map-same : (f g : ℕ → ℕ) (js : List ℕ) → every (λ j. eqb (f j) (g j)) js ≡ true → map f js ≡ map g js
 unfolding every
@@ -80,12 +75,6 @@ plainPart part = record { start = sets (part .start) 4 (plainStart part); datas 
 module _ (part : Part) (h : isPart part ≡ true) where
   abbrev rules : PartRules part
   rules = part-rules part h
-
-  start-long : length (part .start) ≡ 32
-  start-long = start-rules (part .start) (rules .start) .long
-
-  end-long : length (part .end) ≡ 32
-  end-long = end-rules (radarsOf (part .start)) (part .end) (rules .end) .long
 
   -- ---- what is written
 
@@ -145,46 +134,46 @@ module _ (part : Part) (h : isPart part ≡ true) where
 
   -- where the end text begins
   end-begins : endAt (partBytes part) ≡ length (textOf (part .start)) + length (textsOf (part .datas))
-  end-begins = omega (arith, bytes-long part, text-length (part .end), end-long)
+  end-begins = omega (arith, bytes-long part, text-length (part .end), end-long part h)
 
   plain-places : (i : ℕ) → mayDiffer (partBytes part) i ≡ false → partBytes (plainPart part) ! i ≡ partBytes part ! i
   unfolding partBytes
   plain-places i m =
       let (a, b) = neither (isIn i startPlaces) (isIn i (map (λ j. endAt (partBytes part) + j) endPlaces)) m in
       append-agrees (textOf (plainPart part .start)) (textOf (part .start)) (textsOf (part .datas) ++ textOf (plainPart part .end)) (textsOf (part .datas) ++ textOf (part .end)) start-text i
-      (λ _. text-agrees (part .start) 4 (plainStart part) i start-long a)
+      (λ _. text-agrees (part .start) 4 (plainStart part) i (start-long part h) a)
       (λ j e. append-agrees (textsOf (part .datas)) (textsOf (part .datas)) (textOf (plainPart part .end)) (textOf (part .end)) refl j
       (λ _. refl)
-      (λ k f. text-agrees (part .end) 3 (plainEnd part) k end-long (free b k (omega (arith, end-begins, start-text)))))
+      (λ k f. text-agrees (part .end) 3 (plainEnd part) k (end-long part h) (free b k (omega (arith, end-begins, start-text)))))
     where
       free : isIn i (map (λ j. endAt (partBytes part) + j) endPlaces) ≡ false → (k : ℕ) → i ≡ endAt (partBytes part) + k → isIn k endPlaces ≡ false
       free b k e =
           sym (in-shifted (endAt (partBytes part)) k endPlaces) ∙ ap (λ t. isIn t (map (λ j. endAt (partBytes part) + j) endPlaces)) (sym e) ∙ b
 
   plain-long-start : 32 ≤ length (plainPart part .start)
-  plain-long-start = omega (arith, length-sets (part .start) 4 (plainStart part), start-long)
+  plain-long-start = omega (arith, length-sets (part .start) 4 (plainStart part), start-long part h)
 
   plain-status : partBytes (plainPart part) ! 9 ≡ plainStatus (heldPart part) (partBytes part ! 9)
   plain-status =
       start-byte-at (plainPart part) 4 (omega (arith, plain-long-start))
-      ∙ sets-at (part .start) 4 (plainStart part) 0 (omega (arith, start-long)) (lit≤ tt)
-      ∙ ap (plainStatus (heldPart part)) (sym (start-byte-at part 4 (omega (arith, start-long))))
+      ∙ sets-at (part .start) 4 (plainStart part) 0 (omega (arith, start-long part h)) (lit≤ tt)
+      ∙ ap (plainStatus (heldPart part)) (sym (start-byte-at part 4 (omega (arith, start-long part h))))
 
   plain-mode : partBytes (plainPart part) ! 10 ≡ plainMode (partBytes part ! 10)
   plain-mode =
       start-byte-at (plainPart part) 5 (omega (arith, plain-long-start))
-      ∙ sets-at (part .start) 4 (plainStart part) 1 (omega (arith, start-long)) (lit≤ tt)
-      ∙ ap plainMode (sym (start-byte-at part 5 (omega (arith, start-long))))
+      ∙ sets-at (part .start) 4 (plainStart part) 1 (omega (arith, start-long part h)) (lit≤ tt)
+      ∙ ap plainMode (sym (start-byte-at part 5 (omega (arith, start-long part h))))
 
   plain-modes : (i : ℕ) → i < 8 → partBytes (plainPart part) ! (endAt (partBytes part) + (8 + i)) ≡ plainMode (partBytes part ! (endAt (partBytes part) + (8 + i)))
   plain-modes i l =
       let n = endAt (partBytes part) in
       let place : n + (8 + i) ≡ n + (5 + (3 + i)) = omega arith in
       ap (λ t. partBytes (plainPart part) ! t) place
-      ∙ end-byte-at (plainPart part) n (3 + i) (omega (arith, end-begins, start-text)) (omega (arith, length-sets (part .end) 3 (plainEnd part), end-long))
-      ∙ sets-at (part .end) 3 (plainEnd part) i (omega (arith, end-long)) l
+      ∙ end-byte-at (plainPart part) n (3 + i) (omega (arith, end-begins, start-text)) (omega (arith, length-sets (part .end) 3 (plainEnd part), end-long part h))
+      ∙ sets-at (part .end) 3 (plainEnd part) i (omega (arith, end-long part h)) l
       ∙ map-place (λ j. plainMode (part .end ! j)) 3 8 i l
-      ∙ ap plainMode (sym (end-byte-at part n (3 + i) end-begins (omega (arith, end-long))) ∙ ap (λ t. partBytes part ! t) (sym place))
+      ∙ ap plainMode (sym (end-byte-at part n (3 + i) end-begins (omega (arith, end-long part h))) ∙ ap (λ t. partBytes part ! t) (sym place))
 
   -- plain bytes are left as they are
   plain-same : isPlain part ≡ true → plainPart part ≡ part
@@ -212,9 +201,17 @@ module _ (part : Part) (h : isPart part ≡ true) where
       ap (λ n. dataBlocks (heldPart part) (headerOf (part .start) .picture) 1 n (heldPayload part))
       (ap (dataTexts (heldPart part)) (blank-echo c) ∙ no-texts (heldPart part) (blank-part c))
 
-  blank-status : cameBlank part ≡ true → noEchoOf (rewrittenPart part .start ! 4) ≡ true
-  unfolding writtenPart startContents statusByte noEchoOf bit
-  blank-status c = ap (λ t. noEchoOf (statusByte t)) (blank-echo c)
+  blank-start : cameBlank part ≡ true → rewrittenPart part .start ≡ blankStart part
+  unfolding writtenPart headerOf statusByte
+  blank-start c =
+      start-again (part .start) (writesNoEcho (heldPart part) (heldPayload part)) (partModes part) (rules .start)
+      ∙ ap₂ (λ a m. sets (part .start) 4 (statusByte a ∷ modeByte m ∷ [])) (blank-echo c) (sym (rules .mode))
+
+  blank-bytes : cameBlank part ≡ true → partBytes (rewrittenPart part) ≡ textOf (blankStart part) ++ textOf (blankEnd part)
+  unfolding partBytes textsOf
+  blank-bytes c =
+      ap (λ t. textOf (rewrittenPart part .start) ++ (textsOf t ++ textOf (rewrittenPart part .end))) (blank-datas c)
+      ∙ ap₂ (λ s e. textOf s ++ textOf e) (blank-start c) end-same
 
   again-start-long : length (rewrittenPart part .start) ≡ 32
   unfolding writtenPart startContents clockBytes timeText headerOf
@@ -244,7 +241,7 @@ rewritten bytes u =
       );
       modes = λ c i l. again c (endAt bytes + (8 + i)) ∙ subst (λ t. partBytes (plainPart part) ! (endAt t + (8 + i)) ≡ plainMode (t ! (endAt t + (8 + i)))) (sym framed) (plain-modes part h i l);
       same = λ c p. ap partBytes (part-again part h c ∙ plain-same part h p) ∙ sym framed;
-      blank = λ c. (blank-datas part h c, blank-status part h c, blank-long part h c);
+      blank = λ c. (blank-bytes part h c, blank-long part h c);
     }
   where
     part : Part

@@ -6,7 +6,9 @@ use mathlib.Core.Bool.{Bool, true, false, not, _&&_, _||_}
 use mathlib.Core.List.{List, [], _∷_, _++_, map}
 use lib.Dec.{eqb}
 use lib.ListN.{length, take}
+use lib.Seq.{sets}
 use Rattle.texts.specs.Bytes.{_!_, isIn, every}
+use Rattle.texts.specs.Text.{textOf}
 use Rattle.texts.specs.Kinds.{isPartNumber, dataTexts, partLength, payloadLength}
 use Rattle.texts.specs.StartBlock.{noEchoOf, modeOf, modeByte}
 use Rattle.texts.specs.EndBlock.{highest}
@@ -92,12 +94,24 @@ plainStatus p b = statusByte (noEchoOf b && not (eqb p 3))
 abbrev pub plainMode : ℕ → ℕ
 plainMode b = modeByte (modeOf b)
 
+-- where an end block has its mode bytes
+abbrev pub modePlaces : List ℕ
+modePlaces = 3 ∷ 4 ∷ 5 ∷ 6 ∷ 7 ∷ 8 ∷ 9 ∷ 10 ∷ []
+
 -- meaningless bits, and quality's NO ECHO bit, are 0
 abbrev pub isPlain : Part → Bool
 isPlain part =
     eqb (plainStatus (heldPart part) (part .start ! 4)) (part .start ! 4)
     && eqb (plainMode (part .start ! 5)) (part .start ! 5)
-    && every (λ i. eqb (plainMode (part .end ! i)) (part .end ! i)) (3 ∷ 4 ∷ 5 ∷ 6 ∷ 7 ∷ 8 ∷ 9 ∷ 10 ∷ [])
+    && every (λ i. eqb (plainMode (part .end ! i)) (part .end ! i)) modePlaces
+
+-- The blocks that are written in the exception: the start block that came, with NO ECHO alone in status 1 and the mode alone in status 2;
+-- the end block that came, with the modes alone in its mode bytes
+abbrev pub blankStart : Part → List ℕ
+blankStart part = sets (part .start) 4 (0x08 ∷ plainMode (part .start ! 5) ∷ [])
+
+abbrev pub blankEnd : Part → List ℕ
+blankEnd part = sets (part .end) 3 (map (λ i. plainMode (part .end ! i)) modePlaces)
 
 -- Complete is rewritten
 pub record Rewritten (bytes : List ℕ) (u : UndamagedPart bytes) : Type 0 where
@@ -112,9 +126,10 @@ pub record Rewritten (bytes : List ℕ) (u : UndamagedPart bytes) : Type 0 where
       → partBytes (rewrittenPart (u .part)) ! (endAt bytes + (8 + i)) ≡ plainMode (bytes ! (endAt bytes + (8 + i)))
   -- outright where those bits are 0: so every such part is one that the writer writes
   pub same : cameBlank (u .part) ≡ false → isPlain (u .part) ≡ true → partBytes (rewrittenPart (u .part)) ≡ bytes
-  -- the exception: NO ECHO is set and the data texts are left out
+  -- the exception: NO ECHO is set and the data texts are left out, so that the bytes are two texts
   pub blank : cameBlank (u .part) ≡ true
-      → (rewrittenPart (u .part) .datas ≡ []) × (noEchoOf (rewrittenPart (u .part) .start ! 4) ≡ true) × (length (partBytes (rewrittenPart (u .part))) ≡ 80)
+      → (partBytes (rewrittenPart (u .part)) ≡ textOf (blankStart (u .part)) ++ textOf (blankEnd (u .part)))
+      × (length (partBytes (rewrittenPart (u .part))) ≡ 80)
 
 -- The two halves, for all input
 pub record Demand2 : Type 0 where

@@ -13,6 +13,7 @@ use Rattle.stream.specs.Calls.{Received, feed, sliceCall, ask, number, spread, 
 use Rattle.stream.specs.Demand3.{SliceTaken}
 use Rattle.stream.proofs.Opening.{by-if}
 use Rattle.stream.proofs.CallLists.{Sound, fresh-sound, steps-sound, not-refused, slice-taken, answers-append, state-append, grid-append}
+use Rattle.stream.proofs.Theorem.{answers-long}
 use Rattle.step.specs.Meaning.{stateOf}
 use Rattle.step.specs.Decide.{numberOf}
 use Rattle.step.specs.declared.state.State.{State}
@@ -56,11 +57,6 @@ number-same Taken = refl
 number-same Complete = refl
 number-same (Dropped n) = refl
 number-same (Refused n) = refl
-
-answers-long : (bytes : List ℕ) (s : Rattle.stream.specs.State.State) (g : List ℕ) → length (answersOf s g bytes) ≡ length bytes
-unfolding answersOf
-answers-long [] s g = refl
-answers-long (b ∷ bytes) s g = ap suc (answers-long bytes (step s g b .state) (step s g b .grid))
 
 -- after the bytes up to a place
 pub record Along (bytes : List ℕ) (s : State) (g : List ℕ) (answer at : ℕ) : Type 0 where

@@ -6,19 +6,19 @@ use mathlib.Core.List.{List, [], _∷_}
 use Prim.Native.Nat.{ℕ, zero, suc, _+_, _*_, _-_, _≤_, _<_}
 use native.Mathlib.Nat.{mul-le-mul-right}
 use native.Mathlib.Omega.{arith}
-use lib.Dec.{eqb, leb, ltb, lit≤}
+use lib.Dec.{eqb, ltb, lit≤}
 use lib.ListN.{length, getD, take, drop}
 use lib.Seq.{take-nil, drop-drop, getD-take, getD-drop}
-use borrow.Author.Tests.{eqb-true, eqb-false, ltb-true, ltb-false, leb-true, le-leb, lt-leb}
+use borrow.Author.Tests.{eqb-true, eqb-false, ltb-true, ltb-false, le-leb, lt-leb}
 use Rattle.texts.specs.Bytes.{_!_}
 use Rattle.texts.specs.Kinds.{isPartNumber, partOf, dataBlockLength, dataTexts, partLength}
 use Rattle.texts.specs.StartBlock.{noEchoOf}
 use Rattle.texts.specs.DataBlock.{payloadOf}
 use Rattle.texts.specs.Part.{UndamagedPart, cutBlocks, cutPart, isUndamagedPart}
-use Rattle.text_laws.proofs.Rules.{by-test, and-split, or-split}
+use Rattle.text_laws.proofs.Rules.{or-split, neither}
+use Rattle.text_laws.proofs.KindTable.{data-least}
 use Rattle.text_laws.proofs.Parts.{start-at, part-length-settled}
 use Rattle.text_laws.proofs.Deciding.{part-decided}
-use Rattle.receiver.proofs.Runs.{neither}
 use Rattle.stored.specs.Stored.{hasText, textPayload}
 use Rattle.stored.proofs.Wholly.{numbered, part-long}
 
@@ -51,16 +51,6 @@ payload-of size bytes l =
     ap (λ n. drop 3 (take n bytes)) e ∙ behind-3 (size - 3) bytes
 
 -- ---- lengths
-
-sized : (p : ℕ) → isPartNumber p ≡ true → 103 ≤ dataBlockLength p
-unfolding isPartNumber dataBlockLength
-sized p h =
-    by-test (eqb p 1) (λ e. rw e (lit≤ tt))
-    (λ e. by-test (eqb p 2) (λ f. rw (e, f) (lit≤ tt))
-    (λ f. by-test (eqb p 3) (λ g. rw (e, f, g) (lit≤ tt)) (λ g. absurd (none (eqb-false p 1 e) (eqb-false p 2 f) (eqb-false p 3 g)))))
-  where
-    none : (p ≡ 1 → ⊥) → (p ≡ 2 → ⊥) → (p ≡ 3 → ⊥) → ⊥
-    none a b c = let (low, high) = and-split (leb 1 p) (leb p 3) h in omega (arith, leb-true 1 p low, leb-true p 3 high)
 
 -- where the payload of data text k begins
 abbrev pub payloadAt : ℕ → ℕ → ℕ
@@ -116,7 +106,7 @@ module _ (bytes : List ℕ) (whole : isUndamagedPart bytes ≡ true) where
       within = let (z, m) = neither (eqb k 0) (ltb last k) has in (omega (arith, eqb-false k 0 z), ltb-false last k m)
 
       sizes : 103 ≤ block
-      sizes = subst (λ n. 103 ≤ n) (sym (isBlock ∙ ap dataBlockLength isNumber)) (sized (partOf (bytes ! 7)) known)
+      sizes = subst (λ n. 103 ≤ n) (sym (isBlock ∙ ap dataBlockLength isNumber)) (data-least (partOf (bytes ! 7)) known)
 
       whole-long : length bytes ≡ 40 + (last * (block + 8) + 40)
       unfolding partLength

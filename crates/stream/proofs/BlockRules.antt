@@ -20,7 +20,7 @@ use Rattle.texts.specs.EndBlock.{radarPlaces, isModeByte, isEndBlock, modesOf, 
 use Rattle.texts.specs.declared.header.Header.{Header}
 use Rattle.texts.proofs.Tests.{places, by-place}
 use Rattle.texts.proofs.Radars.{radars-by-place}
-use Rattle.text_laws.proofs.Rules.{by-test, never, and-split, and-join, rule-at, every-at, every-in}
+use Rattle.text_laws.proofs.Rules.{by-test, never, and-split, and-join, neither, rule-at, every-at, every-in}
 use Rattle.text_laws.proofs.Blocks.{StartRules, start-rules, start-keeps, DataRules, data-rules, data-keeps, EndRules, end-rules, end-keeps}
 use Rattle.stream.specs.Contents.{timeTakes, startTakes, begunHeader, enterHeader, endTakes, enterModes, enterGrid, takesByte}
 use Rattle.stream.proofs.Machine.{Eats, done, bite}
@@ -238,11 +238,7 @@ pub data-only : (k : ℕ) → isDataKind k ≡ true → (isStartKind k ≡ false
 unfolding isDataKind isStartKind isEndKind
 data-only k h =
     let (a, b) = and-split (isKind k) (not (eqb (textNumber k) 0 || eqb (textNumber k) 11)) h in
-    rw a (split (eqb (textNumber k) 0) (eqb (textNumber k) 11) (not-true _ b))
-  where
-    split : (x y : Bool) → x || y ≡ false → (x ≡ false) × (y ≡ false)
-    split true y e = never e refl
-    split false y e = (refl, e)
+    rw a (neither (eqb (textNumber k) 0) (eqb (textNumber k) 11) (not-true _ b))
 
 module _ (k : ℕ) (h : isDataKind k ≡ true) where
   -- where the payload enters

@@ -15,7 +15,7 @@ use Rattle.texts.specs.Kinds.{kinds, isPartNumber, isKind, isStartKind, isEndKi
 use Rattle.texts.specs.Part.{gridLength, zeros}
 use Rattle.texts.specs.declared.header.Header.{Header}
 use Rattle.text_laws.proofs.Rules.{by-test, never, and-split, and-join, rule-at, tabled}
-use Rattle.text_laws.proofs.KindTable.{kind-part, text-back, start-is-kind}
+use Rattle.text_laws.proofs.KindTable.{kind-part, text-back, start-is-kind, no-kind-0}
 use Rattle.stream.specs.Seen.{push, endsOpening, dueByte}
 use Rattle.stream.specs.State.{State, dropped, fresh, emptyGrid, isDue, fitsPart, kindUnread, kindRead, isPossible}
 use Rattle.stream.specs.Contents.{takesByte, enterGrid}
@@ -36,10 +36,6 @@ pub record Possible (s : State) : Type 0 where
   pub few : length (s .seen) ≤ 5
   pub due : isDue (s .part) (s .due) ≡ true
   pub shape : Shape s
-
-no-kind-0 : isKind 0 ≡ false
-unfolding isKind partOf kinds
-no-kind-0 = refl
 
 pub possible-keeps : (s : State) → Possible s → isPossible s ≡ true
 unfolding isPossible allOf kindUnread kindRead

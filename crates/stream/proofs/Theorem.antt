@@ -75,7 +75,7 @@ step-same s t g h b e =
 
 -- ---- answers and places
 
-answers-long : (bytes : List ℕ) (s : State) (g : List ℕ) → length (answersOf s g bytes) ≡ length bytes
+pub answers-long : (bytes : List ℕ) (s : State) (g : List ℕ) → length (answersOf s g bytes) ≡ length bytes
 unfolding answersOf
 answers-long [] s g = refl
 answers-long (b ∷ bytes) s g = ap suc (answers-long bytes (step s g b .state) (step s g b .grid))

@@ -20,7 +20,7 @@ use Rattle.texts.specs.EndBlock.{isEndBlock, modesOf, highest, noModes}
 use Rattle.texts.specs.Part.{Part, textsOf, partBytes, isTextOf, inOrder, startPart, dataTextsAfter, isPart, UndamagedPart, gridLength, payloadsOf, zeros, gridOf, partHeader, partModes}
 use Rattle.texts.specs.declared.header.Header.{Header}
 use Rattle.text_laws.proofs.Rules.{by-test, never, and-split, and-join}
-use Rattle.text_laws.proofs.KindTable.{text-back, data-is-kind, end-is-kind, data-block-length}
+use Rattle.text_laws.proofs.KindTable.{text-back, data-is-kind, end-is-kind, data-block-length, few-texts}
 use Rattle.text_laws.proofs.Blocks.{StartRules, start-rules, DataRules, data-rules, data-keeps, EndRules, end-rules, PartRules, part-rules, part-keeps}
 use Rattle.text_laws.proofs.Parts.{Sized, data-sized, payloads-length, payload-fits, order-split}
 use Rattle.stream.specs.State.{emptyGrid}
@@ -106,12 +106,7 @@ next-due : (p : ℕ) (e : Bool) (m : ℕ) → m < dataTexts p e → nextDue p (s
 unfolding nextDue
 next-due p e m h = ap (λ n. cond (ltb (suc m) n) (suc (suc m)) 11) (sym (some-all p e (omega arith)))
 
--- no part has more than ten data texts, and only intensity has more than one
-few-texts : (p : ℕ) (e : Bool) → dataTexts p e ≤ 10
-unfolding dataTexts
-few-texts p e =
-    by-if (λ n. n ≤ 10) (eqb p 3) (λ _. lit≤ tt) (λ _. by-if (λ n. n ≤ 10) e (λ _. lit≤ tt) (λ _. by-if (λ n. n ≤ 10) (eqb p 1) (λ _. lit≤ tt) (λ _. by-if (λ n. n ≤ 10) (eqb p 2) (λ _. lit≤ tt) (λ _. lit≤ tt))))
-
+-- only intensity has more than one data text
 data-place : (p : ℕ) (e : Bool) (m : ℕ) → m < dataTexts p e → 2000 * m ≡ m * (dataBlockLength p - 3)
 unfolding dataTexts dataBlockLength
 data-place p e m h =

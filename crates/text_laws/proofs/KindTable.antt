@@ -4,9 +4,11 @@ use mathlib.Core.Logic.{_⊎_, inl, inr}
 use mathlib.Core.Bool.{Bool, true, false, cond, not, _&&_, _||_}
 use mathlib.Core.List.{List, [], _∷_}
 use Prim.Native.Nat.{ℕ, zero, suc, _+_, _≤_, _<_}
-use lib.Dec.{eqb, leb}
-use borrow.Author.Tests.{eqb-true, eqb-false, eq-eqb}
-use Rattle.texts.specs.Kinds.{Kind, kind, kinds, byCode, byText, isPartNumber, partOf, textNumber, kindOf, isKind, isStartKind, isDataKind, isEndKind, dataBlockLength, blockLength}
+use native.Mathlib.Nat.{le-refl}
+use native.Mathlib.Omega.{arith}
+use lib.Dec.{eqb, leb, lit≤}
+use borrow.Author.Tests.{eqb-true, eqb-false, leb-true, eq-eqb}
+use Rattle.texts.specs.Kinds.{Kind, kind, kinds, byCode, byText, isPartNumber, partOf, textNumber, kindOf, isKind, isStartKind, isDataKind, isEndKind, dataBlockLength, blockLength, dataTexts}
 use Rattle.text_laws.proofs.Rules.{by-test, never, and-split}
 
 abbrev everyRow : (Kind → Bool) → List Kind → Bool
@@ -74,3 +76,41 @@ end-is-kind b h = and-split (isKind b) (eqb (textNumber b) 11) h .0
 pub data-block-length : (b : ℕ) → isDataKind b ≡ true → blockLength b ≡ dataBlockLength (partOf b)
 unfolding blockLength
 data-block-length b h = rw h
+
+pub no-kind-0 : isKind 0 ≡ false
+unfolding isKind partOf kinds
+no-kind-0 = refl
+
+-- ---- the three parts
+
+pub by-part : (P : ℕ → Type 0) → P 1 → P 2 → P 3 → (p : ℕ) → isPartNumber p ≡ true → P p
+unfolding isPartNumber
+by-part P a b c zero h = absurd (omega (arith, leb-true 1 0 (and-split (leb 1 0) (leb 0 3) h .0)))
+by-part P a b c (suc zero) h = a
+by-part P a b c (suc (suc zero)) h = b
+by-part P a b c (suc (suc (suc zero))) h = c
+by-part P a b c (suc (suc (suc (suc n)))) h =
+    let p = suc (suc (suc (suc n))) in
+    absurd (omega (arith, leb-true p 3 (and-split (leb 1 p) (leb p 3) h .1)))
+
+pub data-least : (p : ℕ) → isPartNumber p ≡ true → 103 ≤ dataBlockLength p
+unfolding dataBlockLength
+data-least = by-part (λ p. 103 ≤ dataBlockLength p) (lit≤ tt) (lit≤ tt) (lit≤ tt)
+
+-- how many data texts: ten at most, no more with NO ECHO than without, and then none but in quality
+pub few-texts : (p : ℕ) (noEcho : Bool) → dataTexts p noEcho ≤ 10
+unfolding dataTexts
+few-texts p noEcho =
+    by-test (eqb p 3) (λ e. rw e (lit≤ tt))
+    (λ e. by-test noEcho (λ f. rw (e, f) (lit≤ tt))
+    (λ f. by-test (eqb p 1) (λ g. rw (e, f, g) (lit≤ tt))
+    (λ g. by-test (eqb p 2) (λ k. rw (e, f, g, k) (lit≤ tt)) (λ k. rw (e, f, g, k) (lit≤ tt)))))
+
+pub most-texts : (p : ℕ) (noEcho : Bool) → dataTexts p noEcho ≤ dataTexts p false
+unfolding dataTexts
+most-texts p false = le-refl (dataTexts p false)
+most-texts p true = by-test (eqb p 3) (λ e. rw e (lit≤ tt)) (λ e. rw e (omega arith))
+
+pub no-texts : (p : ℕ) → eqb p 3 ≡ false → dataTexts p true ≡ 0
+unfolding dataTexts
+no-texts p h = rw h

@@ -179,7 +179,8 @@ control-at : (block : List ℕ) (n : ℕ) → n < 5 → textOf block ! n ≡ con
 unfolding textOf
 control-at block n l = List·getD-append controlA (block ++ controlB block) 0 n l
 
-block-at : (block : List ℕ) (j : ℕ) → j < length block → textOf block ! (5 + j) ≡ block ! j
+-- a text's byte of its block
+pub block-at : (block : List ℕ) (j : ℕ) → j < length block → textOf block ! (5 + j) ≡ block ! j
 unfolding textOf
 block-at block j l = getD-append-add controlA (block ++ controlB block) j 0 ∙ List·getD-append block (controlB block) 0 j l
 

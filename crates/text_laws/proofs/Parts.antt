@@ -72,11 +72,11 @@ module _ (p : Part) (h : isPart p ≡ true) where
   rules : PartRules p
   rules = part-rules p h
 
-  start-long : length (p .start) ≡ 32
+  pub start-long : length (p .start) ≡ 32
   unfolding rules
   start-long = start-rules (p .start) (rules .start) .long
 
-  end-long : length (p .end) ≡ 32
+  pub end-long : length (p .end) ≡ 32
   unfolding rules
   end-long = end-rules (radarsOf (p .start)) (p .end) (rules .end) .long
 

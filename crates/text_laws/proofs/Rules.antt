@@ -5,9 +5,9 @@ use mathlib.Core.Bool.{Bool, true, false, cond, not, _&&_, _||_, true≢false}
 use mathlib.Core.List.{List, [], _∷_, _++_}
 use Prim.Native.Nat.{ℕ, zero, suc, _+_, _≤_, _<_}
 use native.Mathlib.Omega.{arith}
-use lib.Dec.{T, eqb}
+use lib.Dec.{T, eqb, leb, ltb}
 use lib.ListN.{length, getD, take, drop}
-use borrow.Author.Tests.{eqb-true, eqb-false, eq-eqb, ne-eqb}
+use borrow.Author.Tests.{eqb-true, eqb-false, ltb-true, ltb-false, eq-eqb, ne-eqb, le-leb, lt-leb}
 use Rattle.texts.specs.Bytes.{_!_, isIn, every, allOf, same}
 use Rattle.texts.proofs.Finite.{all, at-each}
 
@@ -29,6 +29,17 @@ and-join {a} {b} p q = rw (p, q)
 pub or-split : (a b : Bool) → a || b ≡ true → (a ≡ true) ⊎ (b ≡ true)
 or-split true b h = inl refl
 or-split false b h = inr h
+
+pub neither : (a b : Bool) → a || b ≡ false → (a ≡ false) × (b ≡ false)
+neither true b h = never h refl
+neither false b h = (refl, h)
+
+-- a number that is not from 1 to n
+pub out-of : (n m : ℕ) → not (leb 1 m && leb m n) ≡ (eqb m 0 || ltb n m)
+out-of n m =
+    by-test (eqb m 0) (λ e. rw (e, lt-leb 1 m (omega (arith, eqb-true m 0 e))))
+    (λ e. by-test (ltb n m) (λ f. rw (e, f, le-leb 1 m (omega (arith, eqb-false m 0 e)), lt-leb m n (omega (arith, ltb-true n m f))))
+    (λ f. rw (e, f, le-leb 1 m (omega (arith, eqb-false m 0 e)), le-leb m n (omega (arith, ltb-false n m f)))))
 
 -- all rules are kept, so each one is
 pub rule-at : (rules : List Bool) → allOf rules ≡ true → (i : ℕ) → getD rules i true ≡ true

@@ -5,10 +5,10 @@ use mathlib.Core.List.{List, [], _∷_, _++_, append-nil, map}
 use Prim.Native.Nat.{ℕ, zero, suc, _+_, _*_, _-_, _≤_}
 use native.Mathlib.Nat.{zero-add, suc-mul, zero-mul}
 use native.Mathlib.Omega.{arith}
-use lib.Dec.{eqb, leb, lit≤}
+use lib.Dec.{eqb, lit≤}
 use lib.ListN.{length, set, take, drop, length-append, length-drop, length-map, replicate, drop-of-length-le}
 use lib.Seq.{sets, sets-eq, length-sets, length-take-le, take-at}
-use borrow.Author.Tests.{le-leb, leb-true, eqb-true, not-true}
+use borrow.Author.Tests.{eqb-true, not-true}
 use borrow.Rule.Slice.PartAt.{part-to-end}
 use Rattle.texts.specs.Bytes.{every, putAt}
 use Rattle.texts.specs.Text.{controlB, checkByte, textOf}
@@ -17,15 +17,11 @@ use Rattle.texts.specs.StartBlock.{modeByte, clockBytes}
 use Rattle.texts.specs.DataBlock.{isPayloadByte}
 use Rattle.texts.specs.Part.{textsOf, partBytes, zeros}
 use Rattle.texts.specs.declared.header.Heading.{Heading}
-use Rattle.texts.proofs.Longer.{sets-append}
+use Rattle.texts.proofs.Longer.{sets-append, put-fits}
 use Rattle.text_laws.proofs.Framing.{text-length}
 use Rattle.text_laws.proofs.Rules.{and-split}
+use Rattle.text_laws.proofs.KindTable.{by-part, data-least, no-texts}
 use Rattle.relay.specs.Written.{blockOf, dataBlocks, timeText, startContents, endContents, isPayload, writesNoEcho, writtenPart}
-
--- bytes that fit are put
-put-fits : (output : List ℕ) (at : ℕ) (bytes : List ℕ) → at + length bytes ≤ length output → putAt output at bytes ≡ sets output at bytes
-unfolding putAt
-put-fits output at bytes h = rw (le-leb (at + length bytes) (length output) h)
 
 sets-none : (i : ℕ) (t : List ℕ) → sets [] i t ≡ []
 sets-none i [] = refl
@@ -100,29 +96,6 @@ texts-on part picture k left size output at payload e h =
     ∙ sym (sets-append output at text rest)
     ∙ ap (λ n. sets output at (textOf (blockOf picture (kindOf part k) (take n payload)) ++ textsOf (dataBlocks part picture (suc k) left (drop n payload)))) e
 
--- the three parts
-by-part : (P : ℕ → Type 0) → P 1 → P 2 → P 3 → (p : ℕ) → isPartNumber p ≡ true → P p
-unfolding isPartNumber
-by-part P a b c zero h = absurd (omega (arith, leb-true 1 0 (and-split (leb 1 0) (leb 0 3) h .0)))
-by-part P a b c (suc zero) h = a
-by-part P a b c (suc (suc zero)) h = b
-by-part P a b c (suc (suc (suc zero))) h = c
-by-part P a b c (suc (suc (suc (suc n)))) h =
-    let p = suc (suc (suc (suc n))) in
-    absurd (omega (arith, leb-true p 3 (and-split (leb 1 p) (leb p 3) h .1)))
-
-pub record Sizes (p : ℕ) : Type 0 where
-  pub least : 103 ≤ dataBlockLength p
-  pub few : dataTexts p false ≤ 10
-
-pub sizes : (p : ℕ) → isPartNumber p ≡ true → Sizes p
-unfolding dataBlockLength dataTexts
-sizes =
-    by-part Sizes
-    (record { least = lit≤ tt; few = lit≤ tt })
-    (record { least = lit≤ tt; few = lit≤ tt })
-    (record { least = lit≤ tt; few = lit≤ tt })
-
 pub part-long : (p : ℕ) (noEcho : Bool) → isPartNumber p ≡ true → partLength p noEcho ≡ 40 + (dataTexts p noEcho * (dataBlockLength p + 8) + 40)
 unfolding partLength
 part-long p noEcho h = rw h
@@ -161,8 +134,8 @@ paid p payload h = eqb-true (length payload) (payloadLength p) (and-split (eqb (
 
 -- with NO ECHO no data text is left
 pub no-datas : (p : ℕ) (payload : List ℕ) → writesNoEcho p payload ≡ true → dataTexts p true ≡ 0
-unfolding writesNoEcho dataTexts
-no-datas p payload h = rw (not-true (eqb p 3) (and-split (not (eqb p 3)) (every (λ b. eqb b 0) payload) h .0))
+unfolding writesNoEcho
+no-datas p payload h = no-texts p (not-true (eqb p 3) (and-split (not (eqb p 3)) (every (λ b. eqb b 0) payload) h .0))
 
 -- the lengths of the blocks from byte 3 on, and of what is written
 pub start-long : (noEcho : Bool) (h : Heading) (modes : List ℕ) → length (h .radars) ≡ 8 → length (startContents noEcho h modes) ≡ 29
@@ -177,7 +150,7 @@ pub data-bytes-long :
     (p q : ℕ) (payload : List ℕ) (noEcho : Bool) → isPartNumber p ≡ true → length payload ≡ payloadLength p →
     length (textsOf (dataBlocks p q 1 (dataTexts p noEcho) payload)) ≡ dataTexts p noEcho * (dataBlockLength p + 8)
 data-bytes-long p q payload noEcho h l =
-    datas-long p q 1 (dataTexts p noEcho) payload (omega (arith, sizes p h .least)) (omega (arith, shares p noEcho h))
+    datas-long p q 1 (dataTexts p noEcho) payload (omega (arith, data-least p h)) (omega (arith, shares p noEcho h))
 
 pub written-long :
     (p : ℕ) (h : Heading) (modes payload : List ℕ) → isPartNumber p ≡ true → length (h .radars) ≡ 8 → length modes ≡ 8 → length payload ≡ payloadLength p →

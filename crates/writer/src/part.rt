@@ -1,4 +1,11 @@
 // The writer (01, "The writer"): one part onto the line.
+//
+// From the contract to demand 2: `sent` reads a call's result and output as `relay` does, and the
+// contract says that they are `writes` of what was handed in. Where `writes` refuses nothing, rows
+// 31 to 33 and the lengths of the arrays are `relay`'s `Taken`, and the output begins with the
+// bytes that it calls `written`. So `demand-2` (relay, proofs/Theorem) is about the bytes that this
+// code writes: `readsBack` about all that it takes, and `rewritten` about what a receiver holds
+// after a part.
 use crate::contents::end_contents;
 use crate::contents::start_contents;
 use crate::data::is_payload;

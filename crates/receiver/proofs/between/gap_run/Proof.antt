@@ -7,9 +7,9 @@ use native.Mathlib.Omega.{arith}
 use lib.Dec.{eqb}
 use lib.ListN.{length, getD}
 use borrow.Author.Needs.{needs}
-use borrow.Author.Tests.{eqb-true}
+use borrow.Author.Tests.{eqb-true, not-false}
+use Rattle.text_laws.proofs.Rules.{neither}
 use Rattle.receiver.specs.Run.{SameGrid, waiting}
-use Rattle.receiver.proofs.Runs.{un-not, neither}
 use Rattle.receiver.proofs.Stretches.{gap-has, waiting-first, between-on}
 use Rattle.receiver.proofs.between.gap_run.Statement.{statement}
 use Rattle.receiver.proofs.between.gap_run.Tie as tie
@@ -42,7 +42,7 @@ loop-again c =
     let (place, part, kind, picture, check) = gap-has (a .s) (start .pre .0) in
     let (other, due) = neither _ _ (c .before .before .if1 .left) in
     between-on (a .s) (a .from) (l .loop .seen) (l .loop .count) (l .loop .i) (a .bytes .now) (c .before .pushed .ensures) (c .counted .ensures)
-    (c .before .before .before .before .before .loop-test .taken) other (inr (part, eqb-true _ _ (un-not _ due) ∙ c .before .before .before .due-byte .ensures)) (l .loop .inv)
+    (c .before .before .before .before .before .loop-test .taken) other (inr (part, eqb-true _ _ (not-false _ due) ∙ c .before .before .before .due-byte .ensures)) (l .loop .inv)
 
 returns-2 : tie.Need-returns-2 Inv-loop μ-loop
 returns-2 c = rw (c .waiting-state2 .ensures) (c .before .before .loop .inv)

@@ -6,7 +6,7 @@ use Prim.Native.Nat.{ℕ, _+_, _*_, _-_, _<_}
 use native.Mathlib.Omega.{arith}
 use lib.ListN.{length, take, set}
 use borrow.Author.Needs.{needs}
-use borrow.Author.Tests.{eq-eqb, ne-eqb}
+use borrow.Author.Tests.{eq-eqb, ne-eqb, not-false}
 use Rattle.texts.specs.Part.{gridLength}
 use Rattle.stream.specs.State.{isPossible}
 use Rattle.stream.specs.Receiver.{_⊕_}
@@ -20,7 +20,7 @@ use Rattle.receiver.specs.Returned.{returned, replyOf, seenAfter, applie
 use Rattle.receiver.specs.Run.{paid, isPayloadHere}
 use Rattle.receiver.specs.declared.calls.Got.{Got}
 use Rattle.receiver.proofs.Leaves.{decide-leaf}
-use Rattle.receiver.proofs.Runs.{same-step, applied-here, un-not}
+use Rattle.receiver.proofs.Runs.{same-step, applied-here}
 use Rattle.receiver.proofs.Payloads.{here-has, short-here, possible-here, decide-here}
 use Rattle.receiver.proofs.calls.byte_call.Statement.{statement}
 use Rattle.receiver.proofs.calls.byte_call.Tie as tie
@@ -51,7 +51,7 @@ entered s g b h long here m e =
 
 returns : tie.Need-returns
 unfolding returned byteCall replyOf seenAfter
-returns c = (simp (ne-eqb _ _ (c .if1 .taken)), refl)
+returns c = rw (c .refused .ensures) (simp (ne-eqb _ _ (c .before .if1 .taken)), refl)
 
 sub-grid : tie.Need-sub-grid
 sub-grid c =
@@ -90,13 +90,14 @@ returns-2 c =
 
 returns-3 : tie.Need-returns-3
 unfolding returned byteCall replyOf seenAfter
-returns-3 c = (
-  simp (
-    eq-eqb _ _ (c .before .before .before .before .before .if1 .left),
-    ap not (sym (c .before .is-possible .ensures)) ∙ c .if3 .taken,
-  ),
-  refl,
-)
+returns-3 c =
+    rw (c .refused2 .ensures) (
+      simp (
+        eq-eqb _ _ (c .before .before .before .before .before .before .if1 .left),
+        ap not (sym (c .before .before .is-possible .ensures)) ∙ c .before .if3 .taken,
+      ),
+      refl,
+    )
 
 returns-4 : tie.Need-returns-4
 unfolding seenAfter
@@ -106,7 +107,7 @@ returns-4 c =
     let long = judged .before .before .before .before .before in
     let a = long .before .before .args in
     let d = apply .before .before .decide .ensures in
-    let possible = un-not _ (ap not (sym (judged .before .is-possible .ensures)) ∙ judged .if3 .left) in (
+    let possible = not-false _ (ap not (sym (judged .before .is-possible .ensures)) ∙ judged .if3 .left) in (
       rw (apply .apply .ensures, d) (taken (a .state) (a .grid .now) (a .b) (search needs) (long .if1 .left) possible),
       rw d (decide-leaf (a .state) (a .b) .2),
     )
@@ -115,6 +116,7 @@ pub byte-call-spec : {M : Type 1} → statement M
 byte-call-spec =
     tie.close
     (tie.spec
+    (λ c κs. search needs)
     returns
     (λ c κs. search needs)
     sub-grid
@@ -129,6 +131,7 @@ byte-call-spec =
     (λ c κs. search needs)
     (λ c. search needs)
     returns-2
+    (λ c κs. search needs)
     (λ c κs. search needs)
     returns-3
     (λ c κs. search needs)

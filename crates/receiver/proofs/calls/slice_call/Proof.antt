@@ -5,13 +5,13 @@ use Prim.Native.Nat.{_-_}
 use native.Mathlib.Omega.{arith}
 use lib.ListN.{length, getD}
 use borrow.Author.Needs.{needs}
-use borrow.Author.Tests.{eq-eqb, ne-eqb}
+use borrow.Author.Tests.{eq-eqb, ne-eqb, not-true, not-false}
 use Rattle.stream.specs.Calls.{sliceCall}
 use Rattle.step.specs.Decide.{decide}
 use Rattle.step.specs.declared.state.Decided.{Decided}
 use Rattle.receiver.specs.Returned.{returned, replyOf, seenAfter, isQuiet}
 use Rattle.receiver.specs.Run.{Same}
-use Rattle.receiver.proofs.Runs.{same-trans, same-here, un-not, not-un, quiet-on, stopped, ended}
+use Rattle.receiver.proofs.Runs.{same-trans, same-here, quiet-on, stopped, ended}
 use Rattle.receiver.proofs.calls.slice_call.Statement.{statement}
 use Rattle.receiver.proofs.calls.slice_call.Tie as tie
 
@@ -23,17 +23,18 @@ abbrev μ-loop : tie.MeasureT-loop
 
 returns : tie.Need-returns Inv-loop μ-loop
 unfolding returned sliceCall replyOf seenAfter
-returns c = (simp (ne-eqb _ _ (c .if1 .taken)), refl)
+returns c = rw (c .refused .ensures) (simp (ne-eqb _ _ (c .before .if1 .taken)), refl)
 
 returns-2 : tie.Need-returns-2 Inv-loop μ-loop
 unfolding returned sliceCall replyOf seenAfter
-returns-2 c = (
-  simp (
-    eq-eqb _ _ (c .before .before .if1 .left),
-    ap not (sym (c .before .is-possible .ensures)) ∙ c .if2 .taken,
-  ),
-  refl,
-)
+returns-2 c =
+    rw (c .refused2 .ensures) (
+      simp (
+        eq-eqb _ _ (c .before .before .before .if1 .left),
+        ap not (sym (c .before .before .is-possible .ensures)) ∙ c .before .if2 .taken,
+      ),
+      refl,
+    )
 
 past-stretch-requires : tie.Need-past-stretch-requires Inv-loop μ-loop
 past-stretch-requires c κs = (search needs, c .before .before .before .if1 .left)
@@ -49,9 +50,9 @@ returns-3 c =
     let a = judged .before .before .before .before .before .args in
     let apply = c .before .before .before .before .before in
     stopped (a .state) (a .grid .now) (a .bytes .now) (λ j. omega (arith, judged .before .before .before .shared-slice-known .given j)) (judged .before .before .if1 .left)
-    (un-not _ (ap not (sym (judged .before .is-possible .ensures)) ∙ judged .if2 .left))
+    (not-false _ (ap not (sym (judged .before .is-possible .ensures)) ∙ judged .if2 .left))
     (same-trans (first .past-stretch .ensures) (l .loop .inv)) (c .before .before .before .before .before .before .before .before .before .loop-test .taken) (apply .before .before .decide .ensures)
-    (apply .apply .ensures) (sym (c .before .is-quiet .ensures) ∙ not-un (c .before .is-quiet .result) (c .if3 .taken))
+    (apply .apply .ensures) (sym (c .before .is-quiet .ensures) ∙ not-true (c .before .is-quiet .result) (c .if3 .taken))
 
 past-stretch-requires-2 : tie.Need-past-stretch-requires-2 Inv-loop μ-loop
 past-stretch-requires-2 c κs =
@@ -69,7 +70,7 @@ loop-again c =
     same-trans
     (quiet-on (first .past-stretch .ensures .long ∙ first .before .before .before .before .if1 .left) (l .loop .inv) (c .before .before .before .before .before .before .before .before .before .before .before .before .before .before .before .before .before .before .loop-test .taken)
     (apply .before .before .decide .ensures) (apply .apply .ensures)
-    (sym (c .before .before .before .before .before .before .before .before .before .before .is-quiet .ensures) ∙ un-not (c .before .before .before .before .before .before .before .before .before .before .is-quiet .result) (c .before .before .before .before .before .before .before .before .before .if3 .left)))
+    (sym (c .before .before .before .before .before .before .before .before .before .before .is-quiet .ensures) ∙ not-false (c .before .before .before .before .before .before .before .before .before .before .is-quiet .result) (c .before .before .before .before .before .before .before .before .before .if3 .left)))
     (c .before .before .before .past-stretch2 .ensures)
 
 loop-again-2 : tie.Need-loop-again-2 Inv-loop μ-loop
@@ -79,7 +80,7 @@ loop-again-2 c =
     let apply = c .before .before .before .before .before .before .before .before .before in
     quiet-on (first .past-stretch .ensures .long ∙ first .before .before .before .before .if1 .left) (l .loop .inv) (c .before .before .before .before .before .before .before .before .before .before .before .before .before .loop-test .taken)
     (apply .before .before .decide .ensures) (apply .apply .ensures)
-    (sym (c .before .before .before .before .before .is-quiet .ensures) ∙ un-not (c .before .before .before .before .before .is-quiet .result) (c .before .before .before .before .if3 .left))
+    (sym (c .before .before .before .before .before .is-quiet .ensures) ∙ not-false (c .before .before .before .before .before .is-quiet .result) (c .before .before .before .before .if3 .left))
 
 returns-4 : tie.Need-returns-4 Inv-loop μ-loop
 returns-4 c =
@@ -88,7 +89,7 @@ returns-4 c =
     let judged = first .before .before in
     let a = judged .before .before .before .before .before .args in
     ended (a .state) (a .grid .now) (a .bytes .now) (λ j. omega (arith, judged .before .before .before .shared-slice-known .given j)) (judged .before .before .if1 .left)
-    (un-not _ (ap not (sym (judged .before .is-possible .ensures)) ∙ judged .if2 .left)) (l .loop .s) (l .loop .grid) (l .loop .i)
+    (not-false _ (ap not (sym (judged .before .is-possible .ensures)) ∙ judged .if2 .left)) (l .loop .s) (l .loop .grid) (l .loop .i)
     (same-trans (first .past-stretch .ensures) (l .loop .inv)) (c .loop-test .left)
 
 pub slice-call-spec : {M : Type 1} → statement M
@@ -97,7 +98,9 @@ slice-call-spec =
     (tie.spec
     Inv-loop
     μ-loop
+    (λ c κs. search needs)
     returns
+    (λ c κs. search needs)
     (λ c κs. search needs)
     returns-2
     past-stretch-requires

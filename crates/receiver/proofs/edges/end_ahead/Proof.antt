@@ -1,17 +1,15 @@
 -- The due end text stands here whole, or nothing is passed. Assumes nothing.
-use mathlib.Core.Path.{_≡_, refl, sym, ap, _∙_}
-use Prim.Native.Nat.{ℕ, _+_, _-_}
+use mathlib.Core.Path.{refl, sym, ap, _∙_}
 use native.Mathlib.Omega.{arith}
 use lib.ListN.{length, take, drop}
 use borrow.Author.Needs.{needs}
-use borrow.Author.Tests.{eqb-true}
-use Rattle.receiver.proofs.Runs.{same-here, neither, un-not}
+use borrow.Author.Tests.{eqb-true, not-false}
+use Rattle.texts.proofs.Longer.{width}
+use Rattle.text_laws.proofs.Rules.{neither}
+use Rattle.receiver.proofs.Runs.{same-here}
 use Rattle.receiver.proofs.Wholes.{end-on}
 use Rattle.receiver.proofs.edges.end_ahead.Statement.{statement}
 use Rattle.receiver.proofs.edges.end_ahead.Tie as tie
-
-width : (from n : ℕ) → from + n - from ≡ n
-width from n = omega arith
 
 returns : tie.Need-returns
 returns c g = same-here (omega (arith, c .before .before .before .before .before .before .before .before .before .before .pre .1 .1))
@@ -34,8 +32,8 @@ returns-4 c =
     let (picture, kind) = neither _ _ (sum .before .if1 .left) in
     end-on (a .s) bytes (a .from) (ap (λ n. take n (drop (a .from) bytes)) (width (a .from) 32)) (ap (λ n. take n (drop (a .from) bytes)) (width (a .from) 34))
     (sum .block-check .ensures) (start .pre .1 .0) (start .pre .1 .1) (λ j. omega (arith, known .shared-slice-known .given j))
-    (eqb-true _ _ (un-not _ eor)) (eqb-true _ _ (un-not _ checked)) (c .last-five .ensures) (search (needs, start .good .0 .1 .1 .1 .1 .1 .0)) (start .pre .0)
-    (eqb-true _ _ (un-not _ picture)) (eqb-true _ _ (un-not _ kind) ∙ sum .before .before .kind-of .ensures) (read .read-end .ensures) (un-not _ (c .before .before .before .before .before .if3 .left))
+    (eqb-true _ _ (not-false _ eor)) (eqb-true _ _ (not-false _ checked)) (c .last-five .ensures) (search (needs, start .good .0 .1 .1 .1 .1 .1 .0)) (start .pre .0)
+    (eqb-true _ _ (not-false _ picture)) (eqb-true _ _ (not-false _ kind) ∙ sum .before .before .kind-of .ensures) (read .read-end .ensures) (not-false _ (c .before .before .before .before .before .if3 .left))
 
 pub end-ahead-spec : {M : Type 1} → statement M
 end-ahead-spec =

@@ -1,17 +1,15 @@
 -- The text stands here whole, or nothing is passed. Assumes nothing.
-use mathlib.Core.Path.{_≡_, refl, sym, ap, _∙_}
-use Prim.Native.Nat.{ℕ, _+_, _-_}
+use mathlib.Core.Path.{refl, sym, ap, _∙_}
 use native.Mathlib.Omega.{arith}
 use lib.ListN.{take, drop}
 use borrow.Author.Needs.{needs}
-use borrow.Author.Tests.{eqb-true}
-use Rattle.receiver.proofs.Runs.{same-here, neither, un-not}
+use borrow.Author.Tests.{eqb-true, not-false}
+use Rattle.texts.proofs.Longer.{width}
+use Rattle.text_laws.proofs.Rules.{neither}
+use Rattle.receiver.proofs.Runs.{same-here}
 use Rattle.receiver.proofs.Wholes.{start-on}
 use Rattle.receiver.proofs.edges.start_ahead.Statement.{statement}
 use Rattle.receiver.proofs.edges.start_ahead.Tie as tie
-
-width : (from n : ℕ) → from + n - from ≡ n
-width from n = omega arith
 
 returns : tie.Need-returns
 returns c g = same-here (omega (arith, c .before .before .before .before .before .before .pre .1 .1))
@@ -29,7 +27,7 @@ returns-3 c =
     let (eor, checked) = neither _ _ (read .before .if1 .left) in
     start-on (a .s) bytes (a .from) (ap (λ n. take n (drop (a .from) bytes)) (width (a .from) 32)) (ap (λ n. take n (drop (a .from) bytes)) (width (a .from) 34))
     (sum .block-check .ensures) (start .pre .1 .0) (start .pre .1 .1) (λ j. omega (arith, sum .before .before .shared-slice-known .given j))
-    (eqb-true _ _ (un-not _ eor)) (eqb-true _ _ (un-not _ checked)) (c .last-five .ensures) (start .pre .0) (read .read-start .ensures) (un-not _ (c .before .before .before .before .before .if2 .left))
+    (eqb-true _ _ (not-false _ eor)) (eqb-true _ _ (not-false _ checked)) (c .last-five .ensures) (start .pre .0) (read .read-start .ensures) (not-false _ (c .before .before .before .before .before .if2 .left))
 
 pub start-ahead-spec : {M : Type 1} → statement M
 start-ahead-spec =

@@ -3,7 +3,7 @@ use mathlib.Core.Path.{_≡_, sym, ap, _∙_}
 use mathlib.Core.Bool.{not}
 use native.Mathlib.Omega.{arith}
 use borrow.Author.Needs.{needs}
-use Rattle.receiver.proofs.Runs.{un-not}
+use borrow.Author.Tests.{not-false}
 use Rattle.receiver.proofs.edges.text_ahead.Statement.{statement}
 use Rattle.receiver.proofs.edges.text_ahead.Tie as tie
 
@@ -11,14 +11,14 @@ start-ahead-requires : tie.Need-start-ahead-requires
 start-ahead-requires c κs =
     let opened = c .before .before .before in (
       sym (c .before .is-idle .ensures) ∙ c .if3 .taken,
-      (sym (opened .ends-opening .ensures) ∙ un-not _ (c .before .before .if2 .left), omega (arith, opened .before .if1 .left, opened .before .before .before .before .pre)),
+      (sym (opened .ends-opening .ensures) ∙ not-false _ (c .before .before .if2 .left), omega (arith, opened .before .if1 .left, opened .before .before .before .before .pre)),
     )
 
 end-ahead-requires : tie.Need-end-ahead-requires
 end-ahead-requires c κs =
     let opened = c .before .before .before .before .before in (
       sym (c .before .is-gap .ensures) ∙ c .if4 .taken,
-      (sym (opened .ends-opening .ensures) ∙ un-not _ (c .before .before .before .before .if2 .left), omega (arith, opened .before .if1 .left, opened .before .before .before .before .pre)),
+      (sym (opened .ends-opening .ensures) ∙ not-false _ (c .before .before .before .before .if2 .left), omega (arith, opened .before .if1 .left, opened .before .before .before .before .pre)),
     )
 
 pub text-ahead-spec : {M : Type 1} → statement M

@@ -6,34 +6,27 @@ use Prim.Native.Nat.{ℕ, _+_, _-_, _≤_, _<_}
 use native.Mathlib.Omega.{arith}
 use lib.Dec.{eqb, ltb}
 use lib.ListN.{length, take, drop, length-drop}
-use lib.Seq.{sets, length-take-le}
+use lib.Seq.{length-take-le}
 use borrow.Author.Needs.{needs}
-use borrow.Author.Tests.{eqb-true, ltb-false, le-leb}
-use Rattle.texts.specs.Bytes.{putAt}
+use borrow.Author.Tests.{eqb-true, ltb-false, not-false}
 use Rattle.texts.specs.Kinds.{blockLength}
+use Rattle.texts.proofs.Longer.{put-fits, width}
+use Rattle.text_laws.proofs.Rules.{neither}
 use Rattle.step.proofs.KindLaws.{block-most, data-number, data-kind}
-use Rattle.receiver.proofs.Runs.{neither, un-not}
 use Rattle.receiver.proofs.Wholes.{payload-on}
 use Rattle.receiver.proofs.payload.payload_ahead.Statement.{statement}
 use Rattle.receiver.proofs.payload.payload_ahead.Tie as tie
 
-width : (from n : ℕ) → from + n - from ≡ n
-width from n = omega arith
-
 long : (bytes : List ℕ) (from n : ℕ) → n ≤ length bytes - from → from ≤ length bytes → length (take (from + n - from) (drop from bytes)) ≡ n
 long bytes from n room inside =
     ap (λ k. length (take k (drop from bytes))) (width from n) ∙ length-take-le n (drop from bytes) (omega (arith, length-drop from bytes))
-
-put-fits : (output : List ℕ) (at : ℕ) (bytes : List ℕ) → at + length bytes ≤ length output → putAt output at bytes ≡ sets output at bytes
-unfolding putAt
-put-fits output at bytes h = rw (le-leb (at + length bytes) (length output) h)
 
 -- the whole payload is there
 there : (place count left n : ℕ) → (not (eqb place 3) || not (eqb count 5) || ltb left n) ≡ false → (place ≡ 3) × (count ≡ 5) × (n ≤ left)
 there place count left n h =
     let (front, room) = neither _ _ h in
     let (p, q) = neither _ _ front in
-    (eqb-true place 3 (un-not _ p), eqb-true count 5 (un-not _ q), ltb-false left n room)
+    (eqb-true place 3 (not-false _ p), eqb-true count 5 (not-false _ q), ltb-false left n room)
 
 part-payload-end : tie.Need-part-payload-end
 part-payload-end c =
@@ -93,7 +86,7 @@ returns-3 c =
     rw (c .paid-state .ensures)
     (payload-on (a .s) (a .grid .now) (a .bytes .now) (a .from) _ (ap (λ n. take n (drop (a .from) (a .bytes .now))) (width (a .from) _)) is place count size
     (omega (arith, size, many)) (omega (arith, size, many)) (omega (arith, room, start .pre .1 .1 .1 .1 .0)) (λ j. omega (arith, test .before .before .before .before .before .shared-slice-known .given j))
-    (rule .before .part-of-kind .ensures) (rule .are-payload-bytes .ensures) (un-not _ (c .before .before .before .before .before .before .before .before .if2 .left)) (entered .before .payload-base .ensures .0) (entered .put .ensures ∙ fits)
+    (rule .before .part-of-kind .ensures) (rule .are-payload-bytes .ensures) (not-false _ (c .before .before .before .before .before .before .before .before .if2 .left)) (entered .before .payload-base .ensures .0) (entered .put .ensures ∙ fits)
     (c .before .before .check-behind .ensures) (c .before .last-five .ensures))
 
 pub payload-ahead-spec : {M : Type 1} → statement M

@@ -6,13 +6,13 @@ use native.Mathlib.Omega.{arith}
 use lib.Dec.{leb}
 use lib.ListN.{length, getD, length-set}
 use borrow.Author.Needs.{needs}
-use borrow.Author.Tests.{leb-false}
+use borrow.Author.Tests.{leb-false, not-false}
 use Rattle.texts.specs.Kinds.{partOf, blockLength}
 use Rattle.texts.specs.DataBlock.{isPayloadByte}
+use Rattle.text_laws.proofs.Rules.{neither}
 use Rattle.stream.specs.Receiver.{_⊕_}
 use Rattle.step.proofs.KindLaws.{block-most}
 use Rattle.receiver.specs.Run.{Same, paid}
-use Rattle.receiver.proofs.Runs.{un-not, neither}
 use Rattle.receiver.proofs.Stretches.{paid-on, paid-first}
 use Rattle.receiver.proofs.payload.payload_run.Statement.{statement}
 use Rattle.receiver.proofs.payload.payload_run.Tie as tie
@@ -47,7 +47,7 @@ on :
     → (place < blockLength kind) × (rule ≡ true)
 on end place kind good rule e r h =
     let (short, kept) = neither (leb end place) (not good) h in
-    (subst (λ n. place < n) e (leb-false end place short), sym r ∙ un-not good kept)
+    (subst (λ n. place < n) e (leb-false end place short), sym r ∙ not-false good kept)
 
 returns : tie.Need-returns Inv-loop μ-loop
 returns c = rw (c .paid-state .ensures) (c .before .before .before .before .before .loop .inv .1 .1)

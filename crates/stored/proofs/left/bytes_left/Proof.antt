@@ -1,22 +1,19 @@
 -- What a possible state says of place and kind bounds the bytes left. Assumes nothing.
-use mathlib.Core.Path.{_≡_, refl, sym, _∙_, subst}
-use mathlib.Core.Bool.{true, false}
+use mathlib.Core.Path.{_≡_, sym, _∙_, subst}
+use mathlib.Core.Bool.{true}
 use Prim.Native.Nat.{_+_, _-_, _≤_}
 use native.Mathlib.Omega.{arith}
 use borrow.Author.Needs.{needs}
 use borrow.Author.Tests.{ne-eqb, not-true, not-false}
-use Rattle.texts.specs.Kinds.{kinds, partOf, isKind, blockLength}
+use Rattle.texts.specs.Kinds.{isKind, blockLength}
 use Rattle.text_laws.proofs.Rules.{never}
+use Rattle.text_laws.proofs.KindTable.{no-kind-0}
 use Rattle.stream.specs.State.{State, isPossible}
 use Rattle.stream.proofs.Possible.{Shape, atFD, atPicture, inText, possible-facts}
 use Rattle.step.proofs.KindLaws.{block-most}
 use Rattle.stored.specs.Left.{impossible, unread, known, remainder}
 use Rattle.stored.proofs.left.bytes_left.Statement.{statement}
 use Rattle.stored.proofs.left.bytes_left.Tie as tie
-
-no-kind-0 : isKind 0 ≡ false
-unfolding isKind partOf kinds
-no-kind-0 = refl
 
 -- before the kind is read, two bytes at most are taken
 early : (s : State) → isPossible s ≡ true → s .kind ≡ 0 → s .place ≤ 2

@@ -13,13 +13,12 @@ use borrow.Rule.Slice.PartAt.{part-to-end}
 use Rattle.texts.specs.Kinds.{kindOf, dataBlockLength, dataTexts, payloadLength}
 use Rattle.texts.specs.Text.{textOf}
 use Rattle.texts.specs.Part.{textsOf}
+use Rattle.texts.proofs.Longer.{width}
+use Rattle.text_laws.proofs.KindTable.{data-least, few-texts}
 use Rattle.relay.specs.Written.{dataBlocks, blockOf}
-use Rattle.writer.proofs.Puts.{sizes, sets-lent, texts-on}
+use Rattle.writer.proofs.Puts.{sets-lent, texts-on}
 use Rattle.writer.proofs.data.write_datas.Statement.{statement}
 use Rattle.writer.proofs.data.write_datas.Tie as tie
-
-width : (from n : ℕ) → from + n - from ≡ n
-width from n = omega arith
 
 -- a share fits the part that is lent for its text
 lends :
@@ -102,13 +101,13 @@ abbrev μ-loop : tie.MeasureT-loop
 μ-loop output₀ part picture payload last size k₀ at₀ from₀ output k at from = suc last - k
 
 sub-size : tie.Need-sub-size Inv-loop μ-loop
-sub-size c = omega (arith, c .data-block-length .ensures, sizes (c .before .before .before .before .args .part) (c .before .before .before .before .pre .0) .least)
+sub-size c = omega (arith, c .data-block-length .ensures, data-least (c .before .before .before .before .args .part) (c .before .before .before .before .pre .0))
 
 loop-holds : tie.Need-loop-holds Inv-loop μ-loop
 loop-holds c =
     let start = c .before .before .before .before in
     let a = start .args in
-    begun (a .output .now) (a .part) (a .picture) (a .payload .now) _ _ (ap (λ n. n - 3) (c .data-block-length .ensures)) (omega (arith, sizes (a .part) (start .pre .0) .least))
+    begun (a .output .now) (a .part) (a .picture) (a .payload .now) _ _ (ap (λ n. n - 3) (c .data-block-length .ensures)) (omega (arith, data-least (a .part) (start .pre .0)))
     (c .before .data-texts .ensures) (start .pre .1 .0) (start .pre .1 .1)
 
 sub-write-text : tie.Need-sub-write-text Inv-loop μ-loop
@@ -137,7 +136,7 @@ add-from c = omega (arith, share _ _ _ _ _ _ (c .before .before .before .before 
 add-k : tie.Need-add-k Inv-loop μ-loop
 add-k c =
     let start = c .before .before .before .before .before .before .before .before .before .before .before .before in
-    omega (arith, c .before .before .before .before .before .before .loop-test .taken, c .before .before .before .before .before .before .before .before .before .data-texts .ensures, sizes (start .args .part) (start .pre .0) .few)
+    omega (arith, c .before .before .before .before .before .before .loop-test .taken, c .before .before .before .before .before .before .before .before .before .data-texts .ensures, few-texts (start .args .part) false)
 
 loop-again : tie.Need-loop-again Inv-loop μ-loop
 loop-again c =

@@ -1,19 +1,18 @@
 -- Each refusal by the test before it, in the order of the definition; the part's bytes at the front by the call. Assumes nothing.
-use mathlib.Core.Path.{_≡_, refl, sym, ap, ap₂, _∙_}
-use mathlib.Core.Logic.{⊎-elim}
-use mathlib.Core.Bool.{Bool, true, false, _&&_, _||_, and-false}
+use mathlib.Core.Path.{_≡_, sym, ap, ap₂, _∙_}
+use mathlib.Core.Bool.{true, false, _||_}
 use mathlib.Core.List.{List, _++_}
 use Prim.Native.Nat.{ℕ, _≤_}
 use native.Mathlib.Omega.{arith}
-use lib.Dec.{eqb, leb, ltb}
+use lib.Dec.{eqb, ltb}
 use lib.ListN.{length, drop}
 use borrow.Author.Needs.{needs}
-use borrow.Author.Tests.{eqb-true, eqb-false, ltb-true, ltb-false, le-leb, lt-leb, le-ltb, lt-ltb, not-true, not-false}
+use borrow.Author.Tests.{le-ltb, lt-ltb, not-true, not-false}
 use Rattle.texts.specs.Kinds.{isPartNumber, partLength}
 use Rattle.texts.specs.Part.{partBytes}
 use Rattle.texts.specs.Handed.{isHanded}
 use Rattle.texts.specs.declared.header.Heading.{Heading}
-use Rattle.text_laws.proofs.Rules.{and-join, or-split, never}
+use Rattle.text_laws.proofs.Rules.{out-of}
 use Rattle.relay.specs.Written.{isPayload, writesNoEcho, writtenPart, writes, wrote, Sent}
 use Rattle.writer.specs.Returned.{answerOf, sent}
 use Rattle.writer.specs.declared.part.Wrote.the-variants.{Bytes}
@@ -24,19 +23,11 @@ use Rattle.writer.proofs.part.write_part.Tie as tie
 -- the test of a part's number
 outside : (p : ℕ) → eqb p 0 || ltb 3 p ≡ true → isPartNumber p ≡ false
 unfolding isPartNumber
-outside p h =
-    ⊎-elim (λ e. rw (eqb-true p 0 e)) (λ l. ap (λ t. leb 1 p && t) (lt-leb p 3 (ltb-true 3 p l)) ∙ and-false (leb 1 p)) (or-split (eqb p 0) (ltb 3 p) h)
-
-neither : (a b : Bool) → a || b ≡ false → (a ≡ false) × (b ≡ false)
-neither true b h = never h refl
-neither false b h = (refl, h)
+outside p h = not-true _ (out-of 3 p ∙ h)
 
 inside : (p : ℕ) → eqb p 0 || ltb 3 p ≡ false → isPartNumber p ≡ true
 unfolding isPartNumber
-inside p h =
-    let (e, l) = neither (eqb p 0) (ltb 3 p) h in
-    let some = eqb-false p 0 e in
-    and-join (le-leb 1 p (omega arith)) (le-leb p 3 (ltb-false 3 p l))
+inside p h = not-false _ (out-of 3 p ∙ h)
 
 -- what is sent where nothing is refused
 taken :
