@@ -2,8 +2,8 @@
 
     python3 tests/compare_c.py
 
-It builds the C file as a program (with $CC, else cc), gives it the stream of listen_samples.py and streams
-of damaged parts made with fixed seeds, and compares: the listening lines from the byte call and both slice
+It builds the C file as a program (with $CC, else cc), gives it the stream of listen_samples.py and hostile
+traffic made by tests/second with fixed seeds, and compares: the listening lines from the byte call and both slice
 calls, in slices of several lengths; the state and the grid after every call; and refusals 1 and 2 of
 made-up states. It also holds the model's answer 3 against texts.py on the same streams: a part is complete
 exactly when the bytes taken end with an undamaged part, and is then kept as it was sent. Ends with an error
@@ -26,119 +26,23 @@ sys.path[:0] = [str(HERE), str(HERE / "model")]
 import texts
 from listen_samples import STREAM
 from receiver import LENGTH, Receiver, part_at_end
-from texts import CONTROL, FF, KINDS, OPENING, PARTS, PICTURES, RADARS
+from texts import CONTROL, FF, KINDS, OPENING
 
-# ---- Damaged streams
+# ---- Streams
 
-ALLOWED = {part: bytes(b for b in range(256) if texts.is_payload_byte(part, b)) for part in PARTS}
-# Bytes that matter to a receiver, for noise and alterations
-LIKELY = OPENING + bytes([0xFE, 0xFF, 0x00, 0xCC, 0xC0, 0x20, 0x21, 0x2F, 0x30, 0x31, 0x3F, 0x11, 0x1F, 0x08])
-
-
-def some_byte(rng):
-    return rng.choice(LIKELY) if rng.random() < 0.6 else rng.randrange(256)
-
-
-# An undamaged part as a list of blocks; now and then with meaningless bits, a NO ECHO bit or much `16`
-def some_part(rng):
-    part = rng.choices(PARTS, (1, 4, 4))[0]
-    count = rng.randint(1, 8)
-    modes = [rng.randint(1, 3) for _ in range(count)] + [0] * (8 - count)
-    year, month = rng.choice((0, 1900, 1999, 2000, 2004, 9999)), rng.randint(1, 12)
-    moment = (year, month, rng.choice((1, texts.days_in(year, month))), rng.randrange(24), rng.randrange(60))
-    header = texts.Header(
-        time=tuple(map(int, "%04d%02d%02d%02d%02d" % moment)),
-        radars=(*sorted(rng.sample(list(RADARS), count)), *(0,) * (8 - count)),
-        clock=rng.randrange(16_384),
-        picture=rng.choice(PICTURES[:4]),  # few, so that texts of two parts go together now and then
-        mode=max(modes),
-        noecho=rng.random() < 0.5,
-    )
-    if rng.random() < 0.3 and part != texts.TOP:
-        payload = bytes(rng.choices(CONTROL, k=texts.payload_length(part)))
-    else:
-        payload = bytes(rng.choices(ALLOWED[part], k=texts.payload_length(part)))
-    blocks = [bytearray(block) for block in texts.split_part(texts.make_part(part, header, modes, payload))]
-    if rng.random() < 0.3:
-        blocks[0][4] |= rng.randrange(256) & 0xF7
-        blocks[0][5] |= rng.randrange(256) & 0xAB
-        for i in range(3, 3 + count):
-            blocks[-1][i] |= rng.randrange(256) & 0xAB
-    assert texts.undamaged_part(b"".join(map(texts.make_text, blocks)))
-    return blocks
-
-
-# Blocks with a rule broken or a field altered; the check bytes will be right
-def alter_blocks(rng, blocks):
-    what = rng.randrange(6)
-    i = rng.randrange(len(blocks))
-    if what == 0:
-        del blocks[i]
-    elif what == 1:
-        blocks.insert(i, blocks[i])
-    elif what == 2:
-        j = rng.randrange(len(blocks))
-        blocks[i], blocks[j] = blocks[j], blocks[i]
-    elif what == 3:
-        blocks[i][1] = rng.choice(PICTURES)
-    elif what == 4:
-        blocks[0][5] = rng.choice((0x04, 0x10, 0x40))
-    else:
-        blocks[i][rng.randrange(1, min(len(blocks[i]), 40))] = some_byte(rng)
-
-
-# Bytes altered, lost, added, cut off, or an opening or control bytes put in or over
-def alter_bytes(rng, data):
-    i = rng.randrange(len(data))
-    what = rng.randrange(8)
-    if what <= 1:
-        data[i] = some_byte(rng)
-    elif what == 2:
-        del data[i]
-    elif what == 3:
-        data.insert(i, some_byte(rng))
-    elif what == 4:
-        del data[i:]
-    elif what == 5:
-        data[i:i] = OPENING
-    elif what == 6:
-        data[i:i + 6] = OPENING
-    else:
-        data[i:i + rng.randrange(6)] = CONTROL
-
-
-def noise(rng):
-    return bytes(some_byte(rng) for _ in range(rng.choice((0, 0, 1, 2, 6, 40))))
-
-
-# At least `size` bytes of it
-def damaged_stream(seed, size):
-    rng = random.Random(seed)
-    out = bytearray()
-    while len(out) < size:
-        blocks = some_part(rng)
-        if rng.random() < 0.2:  # two parts interleaved
-            other = some_part(rng)
-            at = rng.randint(0, len(blocks))
-            blocks[at:at] = other[:rng.randint(1, len(other))]
-        if rng.random() < 0.3:
-            alter_blocks(rng, blocks)
-        data = bytearray(b"".join(map(texts.make_text, blocks)))
-        while data and rng.random() < 0.4:
-            alter_bytes(rng, data)
-        if rng.random() < 0.3:
-            data += noise(rng)
-        out += data
-    return bytes(out)
+# Hostile traffic, from the generator that differential.py uses
+def hostile_stream(second, seed, size):
+    return subprocess.run([second, "generate", str(seed), str(size)], capture_output=True, check=True).stdout
 
 
 # Nothing but bytes that matter
 def likely_stream(seed, size):
     rng = random.Random(seed)
+    likely = OPENING + bytes([0xFE, 0xFF, 0x00, 0xCC, 0xC0, 0x20, 0x21, 0x2F, 0x30, 0x31, 0x3F, 0x11, 0x1F, 0x08])
     pieces = (OPENING, CONTROL, OPENING + b"\xCC\x10", OPENING + b"\xCC\x20\x00\x08\x04", b"\x16", b"\xFD", b"\xCC")
     out = bytearray()
     while len(out) < size:
-        out += rng.choice(pieces) if rng.random() < 0.5 else bytes([some_byte(rng)])
+        out += rng.choice(pieces) if rng.random() < 0.5 else bytes([rng.choice(likely)])
     return bytes(out)
 
 
@@ -233,16 +137,21 @@ def compare_refusals(program, count):
     return Counter(ours)
 
 
+def built(folder, name, *arguments):
+    program = str(Path(folder) / name)
+    compiler = shlex.split(os.environ.get("CC", "cc"))
+    subprocess.run([*compiler, "-O2", *arguments, "-o", program], check=True)
+    return program
+
+
 def main():
     with tempfile.TemporaryDirectory() as folder:
-        program = str(Path(folder) / "receiver")
-        source = str(HERE.parent / "bench" / "receiver.c")
-        compiler = shlex.split(os.environ.get("CC", "cc"))
-        subprocess.run([*compiler, "-O2", "-DLISTEN", source, "-o", program], check=True)
+        program = built(folder, "receiver", "-DLISTEN", str(HERE.parent / "bench" / "receiver.c"))
+        second = built(folder, "second", *map(str, sorted((HERE / "second").glob("*.c"))))
 
         answers, read = Counter(), 0
         streams = [("samples", STREAM)]
-        streams += [(f"damaged, seed {seed}", damaged_stream(seed, 150_000)) for seed in range(1, 21)]
+        streams += [(f"hostile, seed {seed}", hostile_stream(second, seed, 150_000)) for seed in range(1, 21)]
         streams += [(f"likely bytes, seed {seed}", likely_stream(seed, 20_000)) for seed in range(1, 6)]
         streams += [("random bytes", random.Random(1).randbytes(200_000))]
         for name, data in streams:
@@ -256,7 +165,7 @@ def main():
         for name, data, lengths in [
             ("samples", STREAM, (7, 2003)),
             ("samples, from the midst", STREAM[48_000:58_000], (1,)),
-            *((f"damaged, seed {seed}", damaged_stream(seed, 5_000)[:5_000], (1, 3, 50)) for seed in range(101, 107)),
+            *((f"hostile, seed {seed}", hostile_stream(second, seed, 5_000), (1, 3, 50)) for seed in range(101, 107)),
             *((f"likely bytes, seed {seed}", likely_stream(seed, 2_000), (1, 5)) for seed in range(101, 104)),
         ]:
             for most in lengths:

@@ -1,0 +1,321 @@
+#!/usr/bin/env python3
+"""Compares the proved programs with a second model of 01, on hostile traffic.
+
+    python3 tests/differential.py [--seconds 60] [--seed 1] [--length 200000]
+                                  [--bin target/bin] [--programs listen,traffic]
+
+The model, in C under tests/second/, was written from 01 alone.  It is built
+into a temporary folder with $CC (else cc).  For seed, seed + 1, ... until the
+time is up a stream is made, and many short ones are cut from it (0 to 300
+bytes, at any place).  On each stream the complete outputs are compared:
+
+    listen         from a file, and through a pipe in pieces   second answers
+    count_answers  from a file                                 second totals
+    traffic        from a file                                 second traffic
+    resend         from a file                                 second resend
+
+The model is held against itself too: its answers 3 must stand exactly where
+01's definition of an undamaged part, read without a receiver, has a part end
+(`second parts`), and 01's samples must come out right (`second samples`).
+
+The first difference ends the run with status 1; it is printed with program,
+seed and place, and the stream is kept in a file that is named.  Otherwise the
+status is 0 and the figures of the run are printed.
+
+The fixed corpus of a program, kept beside its source, is made by
+
+    second generate SEED LENGTH > crates/traffic/stdin
+    second traffic < crates/traffic/stdin > crates/traffic/stdout
+
+(and the same with `resend` for crates/resend), or in one step by
+
+    python3 tests/differential.py --corpus SEED LENGTH crates/traffic
+
+where the folder's name, traffic or resend, chooses the program.
+"""
+
+import argparse
+import itertools
+import os
+import random
+import subprocess
+import sys
+import tempfile
+import threading
+import time
+from collections import Counter
+from pathlib import Path
+
+HERE = Path(__file__).resolve().parent
+MODEL_OF = {"listen": "answers", "count_answers": "totals", "traffic": "traffic", "resend": "resend"}
+KIND_NAMES = {1: "intensity", 2: "echo top", 3: "quality"}
+RUN_TIMEOUT = 120  # seconds for one run of a program: far above what any needs
+SHORT_STREAMS = 12  # cut from each long one
+MOST_PIECES = 400  # of a stream sent through a pipe
+
+
+class Difference(Exception):
+    """Two outputs that should be equal are not."""
+
+
+def fail(message):
+    """An error of the run itself, told apart from a difference by its status."""
+    print(f"differential: {message}", file=sys.stderr)
+    sys.exit(2)
+
+
+def arguments():
+    """The command line; see the docstring of this file."""
+    parser = argparse.ArgumentParser(description=__doc__.splitlines()[0])
+    parser.add_argument("--seconds", type=float, default=60, help="go on for so long")
+    parser.add_argument("--seed", type=int, default=1, help="the first seed")
+    parser.add_argument("--length", type=int, default=200000, help="about so many bytes a stream")
+    parser.add_argument("--bin", type=Path, default=HERE.parent / "target" / "bin", metavar="FOLDER")
+    parser.add_argument("--programs", default=",".join(MODEL_OF), metavar="NAMES", help="which to compare")
+    parser.add_argument("--corpus", nargs=3, metavar=("SEED", "LENGTH", "FOLDER"))
+    return parser.parse_args()
+
+
+def build_model(folder):
+    """Compiles the model; warnings show, and none is expected."""
+    sources = sorted(str(path) for path in (HERE / "second").glob("*.c"))
+    if not sources:
+        fail(f"no C files in {HERE / 'second'}")
+    model = folder / "second"
+    command = os.environ.get("CC", "cc").split() + ["-O2", "-Wall", "-Wextra", "-std=c11"]
+    if subprocess.run(command + sources + ["-o", str(model)]).returncode != 0:
+        fail("the model does not build")
+    return model
+
+
+def run(command, stdin_path=os.devnull):
+    """The complete output of a program that reads a file; any failure ends the run."""
+    with open(stdin_path, "rb") as stdin:
+        try:
+            done = subprocess.run([str(word) for word in command], stdin=stdin,
+                                  stdout=subprocess.PIPE, timeout=RUN_TIMEOUT)
+        except subprocess.TimeoutExpired:
+            raise Difference(f"{command[0]} has not ended after {RUN_TIMEOUT} seconds") from None
+    if done.returncode != 0:
+        raise Difference(f"{command[0]} ends with status {done.returncode}")
+    return done.stdout
+
+
+def run_model(command, stdin_path=os.devnull):
+    """The same for the model, whose failing is no difference but an error of the run."""
+    try:
+        return run(command, stdin_path)
+    except Difference as failure:
+        fail(str(failure))
+
+
+def pieces(chooser, stream):
+    """Cuts a stream for a pipe: a bounded number of pieces, many of 1 to 7 bytes."""
+    cuts = set()
+    clusters = chooser.randint(0, 40)
+    for _ in range(clusters):
+        at = chooser.randint(0, len(stream))
+        for _ in range(chooser.randint(1, (MOST_PIECES - 1) // 40)):
+            cuts.add(min(at, len(stream)))
+            at += chooser.randint(1, 7) if chooser.random() < 0.8 else chooser.randint(8, 5000)
+    edges = [0] + sorted(cuts) + [len(stream)]
+    return [stream[low:high] for low, high in zip(edges, edges[1:]) if low < high]
+
+
+def feed(process, parts):
+    """Writes pieces one by one; a program that stops reading shows in its output."""
+    try:
+        for part in parts:
+            process.stdin.write(part)
+            if len(part) < 8:
+                time.sleep(0)  # lets the reader see the piece alone now and then
+        process.stdin.close()
+    except (BrokenPipeError, ValueError):
+        pass
+
+
+def run_piped(program, parts, folder):
+    """The complete output of a program fed through a pipe."""
+    with open(folder / "piped", "w+b") as output:
+        process = subprocess.Popen([str(program)], stdin=subprocess.PIPE, stdout=output, bufsize=0)
+        feeder = threading.Thread(target=feed, args=(process, parts), daemon=True)
+        feeder.start()
+        try:
+            status = process.wait(timeout=RUN_TIMEOUT)
+        except subprocess.TimeoutExpired:
+            raise Difference(f"{program} has not ended after {RUN_TIMEOUT} seconds, piped") from None
+        finally:
+            process.kill()  # without effect on one that has ended
+            process.wait()
+            feeder.join()
+        if status != 0:
+            raise Difference(f"{program} ends with status {status}, piped")
+        output.seek(0)
+        return output.read()
+
+
+def shown(line):
+    """A line in an error message, shortened: a grid's line may be very long."""
+    text = line.decode("ascii", "replace")
+    return text if len(text) <= 160 else text[:160] + f" ... ({len(text)} characters)"
+
+
+def first_line_apart(left, right):
+    """Number and text of the first line in which two text outputs differ."""
+    one, two = left.split(b"\n"), right.split(b"\n")
+    longest = max(len(one), len(two))
+    pairs = zip(one + [b"(end)"] * (longest - len(one)), two + [b"(end)"] * (longest - len(two)))
+    for number, (this, that) in enumerate(pairs, 1):
+        if this != that:
+            return f"line {number}", shown(this), shown(that)
+
+
+def first_byte_apart(left, right):
+    """Number (from 1) and value of the first byte in which two outputs differ."""
+    number = len(os.path.commonprefix([left, right]))
+    this, that = (f"{out[number]:02X}" if number < len(out) else "(end)" for out in (left, right))
+    return f"byte {number + 1}", this, that
+
+
+def compare(name, left, right, who=("proved", "model")):
+    """Raises Difference unless both outputs are equal to the last byte."""
+    if left != right:
+        apart = first_byte_apart if name == "resend" else first_line_apart
+        place, this, that = apart(left, right)
+        raise Difference(f"{name}, {place}:\n    {who[0]}: {this}\n    {who[1]}: {that}")
+
+
+class Trial:
+    """One run of this driver: where things are, and the figures so far."""
+
+    def __init__(self, model, programs, folder):
+        self.model = model
+        self.programs = programs
+        self.folder = folder
+        self.stream_file = folder / "stream"
+        self.streams = 0
+        self.bytes = 0
+        self.answers = Counter()
+        self.complete = Counter()
+
+    def check_model(self, traffic):
+        """Complete exactly where an undamaged part ends, and only there."""
+        ends = b"".join(line[5:] + b"\n" for line in traffic.split(b"\n")
+                        if line.startswith(b"byte ") and line.endswith(b" 3"))
+        parts = run_model([self.model, "parts"], self.stream_file)
+        compare("the model against itself", ends, parts, ("its receiver", "its definition of a part"))
+
+    def count(self, stream, traffic):
+        """Figures, from the model's lines; each answer stands there twice."""
+        self.streams += 1
+        self.bytes += len(stream)
+        lines = iter(traffic.split(b"\n"))
+        for line in lines:
+            if line.startswith(b"byte "):
+                answer = int(line.split()[2])
+                self.answers[answer] += 1
+                if answer == 3:
+                    held = next(lines).split()
+                    self.complete[int(held[1]), int(held[4])] += 1
+
+    def check(self, stream, chooser):
+        """All comparisons on one stream."""
+        self.stream_file.write_bytes(stream)
+        traffic = run_model([self.model, "traffic"], self.stream_file)
+        self.check_model(traffic)
+        for name, program in self.programs.items():
+            model = run_model([self.model, MODEL_OF[name]], self.stream_file)
+            compare(name, run([program], self.stream_file), model)
+            if name == "listen":
+                piped = run_piped(program, pieces(chooser, stream), self.folder)
+                compare("listen through a pipe", piped, model)
+        self.count(stream, traffic)
+
+
+def streams_of(model, seed, length, chooser):
+    """A long stream and short ones cut from it, each with its place in the long one."""
+    stream = run_model([model, "generate", seed, chooser.randint(length // 2, length + length // 2)])
+    yield 0, stream
+    for _ in range(SHORT_STREAMS):
+        at = chooser.randint(0, len(stream))
+        yield at, stream[at:at + chooser.randint(0, 300)]
+
+
+def keep(stream, seed):
+    """Keeps a stream that shows a difference, for a second look."""
+    handle, name = tempfile.mkstemp(prefix=f"differential-seed{seed}-", suffix=".stream")
+    with os.fdopen(handle, "wb") as file:
+        file.write(stream)
+    return name
+
+
+def go_through(trial, options):
+    """All seeds until the time is up; returns the last one and whether all agreed."""
+    deadline = time.monotonic() + options.seconds
+    for seed in itertools.count(options.seed):
+        chooser = random.Random(seed)
+        for at, stream in streams_of(trial.model, seed, options.length, chooser):
+            try:
+                trial.check(stream, chooser)
+            except Difference as difference:
+                print(f"DIFFERENCE at seed {seed}, bytes {at} to {at + len(stream)} of its stream\n"
+                      f"  {difference}\n  the stream is kept in {keep(stream, seed)}")
+                return seed, False
+            if time.monotonic() >= deadline:
+                return seed, True
+
+
+def print_figures(trial, first, last, seconds):
+    """What the run has seen, so that a run without events does not pass unnoticed."""
+    answers = ", ".join(f"{answer}: {count:,}" for answer, count in sorted(trial.answers.items()))
+    kinds = ", ".join(f"{name} {trial.complete[part, 0]:,} and {trial.complete[part, 1]:,} with NO ECHO"
+                      for part, name in KIND_NAMES.items())
+    print(f"programs: {', '.join(trial.programs)}")
+    print(f"seeds {first} to {last}, {trial.streams:,} streams, {trial.bytes:,} bytes, {seconds:.1f} seconds")
+    print(f"answers: {answers}")
+    print(f"complete parts: {kinds}")
+
+
+def chosen_programs(options):
+    """The proved programs to compare, each of which must be there."""
+    programs = {}
+    for name in options.programs.split(","):
+        if name not in MODEL_OF:
+            fail(f"no program {name}; there are {', '.join(MODEL_OF)}")
+        programs[name] = options.bin.resolve() / name
+        if not programs[name].is_file():
+            fail(f"{programs[name]} is missing: `rt check` builds it")
+    return programs
+
+
+def write_corpus(model, seed, length, folder):
+    """The fixed input of a program and the output that the model expects."""
+    folder = Path(folder)
+    if folder.name not in ("traffic", "resend") or not folder.is_dir():
+        fail(f"{folder} is not a folder named traffic or resend")
+    (folder / "stdin").write_bytes(run_model([model, "generate", seed, length]))
+    (folder / "stdout").write_bytes(run_model([model, folder.name], folder / "stdin"))
+
+
+def main():
+    """Status 0: no difference; 1: a difference; 2: the run itself failed."""
+    options = arguments()
+    with tempfile.TemporaryDirectory(prefix="differential-") as name:
+        folder = Path(name)
+        if options.corpus:
+            write_corpus(build_model(folder), *options.corpus)
+            return 0
+        programs = chosen_programs(options)
+        model = build_model(folder)
+        run_model([model, "samples"])
+        trial = Trial(model, programs, folder)
+        begun = time.monotonic()
+        last, agreed = go_through(trial, options)
+        print_figures(trial, options.seed, last, time.monotonic() - begun)
+        if agreed:
+            print("no difference")
+        return 0 if agreed else 1
+
+
+if __name__ == "__main__":
+    sys.exit(main())
