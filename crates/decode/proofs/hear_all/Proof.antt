@@ -1,0 +1,32 @@
+-- The turns left grow fewer; grid and buffer keep their lengths. Assumes nothing.
+use mathlib.Core.Path.{_≡_}
+use lib.ListN.{length}
+use borrow.Author.Needs.{needs}
+use Rattle.decode.proofs.hear_all.Statement.{statement}
+use Rattle.decode.proofs.hear_all.Tie as tie
+
+abbrev Inv-loop : tie.InvT-loop
+Inv-loop grid₀ buffer₀ heard₀ turns₀ grid buffer heard turns = (length grid ≡ length grid₀) × (length buffer ≡ length buffer₀)
+
+abbrev μ-loop : tie.MeasureT-loop
+μ-loop grid₀ buffer₀ heard₀ turns₀ grid buffer heard turns = turns
+
+pub hear-all-spec : {M : Type 1} → statement M
+hear-all-spec =
+    tie.close
+    (tie.spec
+    Inv-loop
+    μ-loop
+    (λ c κs. search needs)
+    (λ c κs. search needs)
+    (λ c. search needs)
+    (λ c κs. search needs)
+    (λ c. search needs)
+    (λ c. search needs)
+    (λ c. search needs)
+    (λ c. search needs)
+    (λ c. search needs)
+    (λ c. search needs)
+    (λ c. search needs)
+    (λ c. search needs)
+    (λ c. search needs))

@@ -1,0 +1,25 @@
+-- Nothing has to hold from turn to turn. The measure is what is left of the values to `40`. Assumes nothing.
+use Prim.Native.Nat.{_-_}
+use borrow.Author.Needs.{needs}
+use Rattle.decode.proofs.quality.values.Statement.{statement}
+use Rattle.decode.proofs.quality.values.Tie as tie
+
+abbrev Inv-loop : tie.InvT-loop
+Inv-loop payload value₀ value = Unit {0}
+
+abbrev μ-loop : tie.MeasureT-loop
+μ-loop payload value₀ value = 65 - value
+
+pub values-spec : {M : Type 1} → statement M
+values-spec =
+    tie.close
+    (tie.spec
+    Inv-loop
+    μ-loop
+    (λ c. search needs)
+    (λ c κs. search needs)
+    (λ c κs. search needs)
+    (λ c. search needs)
+    (λ c. search needs)
+    (λ c. search needs)
+    (λ c. search needs))

@@ -1,0 +1,2 @@
+-- What the program counts itself. Assumes nothing.
+pub mod Count
