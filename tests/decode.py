@@ -169,7 +169,7 @@ def causes(value):
     return " ".join(["causes", *named]) if named else "no cause"
 
 
-# The lines about the part that the receiver holds, of which the header does not say the kind
+# The lines about the part that a receiver holds; which kind it is, the header does not say
 def block(number, read, part, receiver):
     header = receiver.header
     digits = "".join(map(str, header.time))
@@ -191,6 +191,13 @@ def block(number, read, part, receiver):
     yield ""
 
 
+# The lines at the end
+def totals(found, read):
+    for answer, count in sorted(found.items()):
+        yield f"answer {answer:2}  {count:8}  {MEANING[answer]}"
+    yield f"bytes {read}"
+
+
 def decoded():
     receiver = Receiver()
     found = Counter()
@@ -208,9 +215,7 @@ def decoded():
                 yield from block(found[3], read, part, receiver)
         assert tuple(got) == answers, f"piece {place}: answers {answers} by hand, {got} by the model"
     assert set(found) == set(MEANING)
-    for answer, count in sorted(found.items()):
-        yield f"answer {answer:2}  {count:8}  {MEANING[answer]}"
-    yield f"bytes {read}"
+    yield from totals(found, read)
 
 
 if __name__ == "__main__":

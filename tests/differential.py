@@ -13,6 +13,7 @@ bytes, at any place).  On each stream the complete outputs are compared:
     count_answers  from a file                                 second totals
     traffic        from a file                                 second traffic
     resend         from a file                                 second resend
+    decode         from a file                                 second traffic, laid out by decode.py
 
 The model is held against itself too: its answers 3 must stand exactly where
 01's definition of an undamaged part, read without a receiver, has a part end
@@ -45,9 +46,15 @@ import threading
 import time
 from collections import Counter
 from pathlib import Path
+from types import SimpleNamespace
 
+sys.dont_write_bytecode = True
 HERE = Path(__file__).resolve().parent
-MODEL_OF = {"listen": "answers", "count_answers": "totals", "traffic": "traffic", "resend": "resend"}
+sys.path.insert(0, str(HERE))
+import decode
+
+MODEL_OF = {"listen": "answers", "count_answers": "totals", "traffic": "traffic", "resend": "resend",
+            "decode": "traffic"}
 KIND_NAMES = {1: "intensity", 2: "echo top", 3: "quality"}
 RUN_TIMEOUT = 120  # seconds for one run of a program: far above what any needs
 SHORT_STREAMS = 12  # cut from each long one
@@ -185,6 +192,25 @@ def compare(name, left, right, who=("proved", "model")):
         raise Difference(f"{name}, {place}:\n    {who[0]}: {this}\n    {who[1]}: {that}")
 
 
+def held_part(held, grid):
+    """The part that the model says is held, as decode.py wants it: its number, and header, modes and grid."""
+    part, picture, clock, noecho, mode, *places = map(int, held.split()[1:])
+    header = SimpleNamespace(picture=picture, clock=clock, noecho=noecho, mode=mode,
+                             time=places[:12], radars=places[12:20])
+    runs = (map(int, run.split("x")) for run in grid.split()[1:])
+    return part, SimpleNamespace(header=header, modes=places[20:], grid=b"".join(bytes([b]) * n for n, b in runs))
+
+
+def decoded(traffic, size):
+    """What `decode` must print of a stream of so many bytes, by the model's lines of traffic."""
+    lines, out, found = iter(traffic.decode().split("\n")), [], Counter()
+    for call, read, answer in (line.split() for line in lines if line.startswith("byte ")):
+        found[int(answer)] += 1
+        if answer == "3":
+            out += decode.block(found[3], int(read), *held_part(next(lines), next(lines)))
+    return "".join(line + "\n" for line in [*out, *decode.totals(found, size)]).encode()
+
+
 class Trial:
     """One run of this driver: where things are, and the figures so far."""
 
@@ -225,6 +251,8 @@ class Trial:
         self.check_model(traffic)
         for name, program in self.programs.items():
             model = run_model([self.model, MODEL_OF[name]], self.stream_file)
+            if name == "decode":
+                model = decoded(model, len(stream))
             compare(name, run([program], self.stream_file), model)
             if name == "listen":
                 piped = run_piped(program, pieces(chooser, stream), self.folder)

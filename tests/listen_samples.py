@@ -380,6 +380,18 @@ begun, low = start(TOP, noecho=True, mode=1), end(TOP, (2,))
 answered_at(33, 20, low[:-2] + bytes([low[-2] ^ 1, 0xFF]), begun, (1,))
 answered_at(34, 21, low[:-1] + b"\x00", begun, (1,))
 
+# ---- One byte altered to `FD`, which demand 3 excludes
+
+# The last data text ends with what an `FD` in place of one byte makes a start text with NO ECHO, and its check
+# byte is right for both: the bytes then end with an undamaged part of 80 bytes, and complete is true
+inner = start(INTENSITY, noecho=True, clock=9966)
+ending = bytearray(20_000)
+ending[-37:] = CONTROL + b"\x00" + inner[6:37]
+last = with_check(data(INTENSITY, 10, ending), inner[-2])
+front = b"".join(data(INTENSITY, k, ending) for k in range(1, 10))
+piece(INTENSITY_BEGUN + front + last + end(INTENSITY), *INTENSITY_ANSWERS)
+piece(INTENSITY_BEGUN + front + last[:-35] + bytes([FD]) + last[-34:] + end(INTENSITY), 1, *(2,) * 9, 11, 1, 3)
+
 # ---- Noise with openings in it, a whole part in its midst, and a text that never ends
 
 for i in range(64):
@@ -407,7 +419,7 @@ def check_pieces(lines):
         assert tuple(got) == answers, f"piece {number}: answers {answers} by hand, {got} by the model"
     assert not rest
     assert {answer for _, answer in lines} == {1, 2, 3, *range(11, 23)}
-    assert len(STREAM) < 150_000
+    assert len(STREAM) < 200_000
 
 
 if __name__ == "__main__":

@@ -219,13 +219,7 @@ static void add_start(struct numbers *n, struct draft *draft)
     begin_block(block, draft, 0x00);
     block[AT_STATUS_1] = (uint8_t)((header->no_echo ? NO_ECHO_BIT : 0) | idle_bits(n, NO_ECHO_BIT));
     block[AT_STATUS_2] = (uint8_t)(byte_of_mode(header->mode) | idle_bits(n, MODE_BITS));
-    block[AT_CLOCK] = (uint8_t)(header->clock >> 7);
-    block[AT_CLOCK + 1] = (uint8_t)(header->clock & 0x7F);
-    for (size_t i = 0; i < TIME_BYTES; i++) {
-        int digit = digit_at(i);
-        block[AT_TIME + i] = digit < 0 ? 0x2E : (uint8_t)('0' + header->time[digit]);
-    }
-    memcpy(block + AT_RADARS, header->radars, RADARS);
+    put_fields(block, header);
     add_text(draft, block, sizeof block);
 }
 

@@ -267,6 +267,17 @@ size_t undamaged_part(const uint8_t *bytes, size_t length)
     return done;
 }
 
+void put_fields(uint8_t *block, const struct header *header)
+{
+    block[AT_CLOCK] = (uint8_t)(header->clock >> 7);
+    block[AT_CLOCK + 1] = (uint8_t)(header->clock & 0x7F);
+    for (size_t i = 0; i < TIME_BYTES; i++) {
+        int digit = digit_at(i);
+        block[AT_TIME + i] = digit < 0 ? 0x2E : (uint8_t)('0' + header->time[digit]);
+    }
+    memcpy(block + AT_RADARS, header->radars, RADARS);
+}
+
 size_t put_text(uint8_t *out, const uint8_t *block, size_t length)
 {
     memcpy(out, OPENING, CONTROL_BYTES);

@@ -90,6 +90,9 @@ bool end_block_undamaged(const uint8_t *block, const uint8_t radars[RADARS]);
 /* The length of the undamaged part with which these bytes begin; 0 for none. */
 size_t undamaged_part(const uint8_t *bytes, size_t length);
 
+/* Puts clock, time and radar codes into a start block. */
+void put_fields(uint8_t *block, const struct header *header);
+
 /* Writes a text around a block; returns its length, the block's and 8. */
 size_t put_text(uint8_t *out, const uint8_t *block, size_t length);
 

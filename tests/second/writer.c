@@ -48,13 +48,7 @@ static size_t put_start(uint8_t *out, const struct writing *what, bool no_echo)
     begin_block(block, what, 0x00);
     block[AT_STATUS_1] = no_echo ? NO_ECHO_BIT : 0;
     block[AT_STATUS_2] = byte_of_mode(highest_mode(what->modes));
-    block[AT_CLOCK] = (uint8_t)(header->clock >> 7);
-    block[AT_CLOCK + 1] = (uint8_t)(header->clock & 0x7F);
-    for (size_t i = 0; i < TIME_BYTES; i++) {
-        int digit = digit_at(i);
-        block[AT_TIME + i] = digit < 0 ? 0x2E : (uint8_t)('0' + header->time[digit]);
-    }
-    memcpy(block + AT_RADARS, header->radars, RADARS);
+    put_fields(block, header);
     return put_text(out, block, sizeof block);
 }
 

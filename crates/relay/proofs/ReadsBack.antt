@@ -6,10 +6,10 @@ use mathlib.Core.List.{List, [], _∷_, _++_, map, append-assoc}
 use Prim.Native.Nat.{ℕ, zero, suc, _+_, _*_, _-_, _≤_, _<_}
 use native.Mathlib.Nat.{zero-add, mul-le-mul-right}
 use native.Mathlib.Omega.{arith}
-use lib.Dec.{eqb, lit≤}
+use lib.Dec.{eqb, ltb, lit≤}
 use lib.ListN.{length, getD, take, drop, replicate, length-append}
 use lib.Seq.{take-suc, take-all, length-take-le}
-use borrow.Author.Tests.{eqb-true, not-true}
+use borrow.Author.Tests.{eqb-true, le-ltb, not-true}
 use Rattle.texts.specs.Bytes.{_!_, every}
 use Rattle.texts.specs.Kinds.{isPartNumber, partOf, kindOf, dataBlockLength, dataTexts, partLength, payloadLength}
 use Rattle.texts.specs.StartBlock.{noEchoOf, modeOf, radarsOf, isStartBlock, headerOf}
@@ -27,7 +27,7 @@ use Rattle.stream.specs.Demand3.{EndsUndamaged, Demand3}
 use Rattle.stream.proofs.CallLists.{singly-taken}
 use Rattle.stream.proofs.Theorem.{demand-3}
 use Rattle.stream.proofs.Firstly.{not-before}
-use Rattle.relay.specs.Written.{writesNoEcho, statusByte, blockOf, startContents, endContents, dataBlocks, writtenPart, isPayload}
+use Rattle.relay.specs.Written.{writesNoEcho, statusByte, blockOf, startContents, endContents, dataBlocks, writtenPart, isPayload, Sent, wrote, writes}
 use Rattle.relay.specs.Demand2.{Taken, written, writtenHeader, ReadsBack}
 use Rattle.relay.proofs.Kept.{OneToThree, one, two, three, part-is, kind-edges, picture, top-mode, mode-back, start-kept, start-header, status-back, end-kept, end-modes}
 use Rattle.relay.proofs.Datas.{data-order, data-count, data-payloads}
@@ -201,12 +201,23 @@ module _ (p : ℕ) (h : Heading) (modes payload : List ℕ) (t : Taken p h modes
         held-grid ∙ grid-is,
       )
 
+  sent : (output : List ℕ) → length (written p h modes payload) ≤ length output
+      → writes p h modes payload output ≡ record { answer = wrote (length (written p h modes payload)); output = written p h modes payload ++ drop (length (written p h modes payload)) output }
+  unfolding writes
+  sent output room =
+      let fits : ltb (length output) (partLength p (writesNoEcho p payload)) ≡ false = le-ltb (length output) (partLength p (writesNoEcho p payload)) (omega (arith, long, room)) in
+      simp (t .part, t .handed, t .allowed, fits) (ap sentAs (sym long))
+    where
+      sentAs : ℕ → Sent
+      sentAs n = record { answer = wrote n; output = written p h modes payload ++ drop n output }
+
   pub reads-back : ReadsBack p h modes payload
   reads-back =
       let bytes = written p h modes payload in
       record {
         undamaged = undamaged;
         long = long;
+        sent = sent;
         last = ap (λ n. singly bytes .said ! n) (sym (zero-add (length bytes - 1))) ∙ anywhere (map (λ b. onGrid (byte b)) bytes) [] (singly-taken bytes) .0;
         before = not-before bytes undamaged;
         anywhere = anywhere;

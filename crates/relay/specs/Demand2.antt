@@ -5,7 +5,7 @@ use Prim.Native.Nat.{ℕ, suc, _+_, _-_, _≤_, _<_}
 use mathlib.Core.Bool.{Bool, true, false, not, _&&_, _||_}
 use mathlib.Core.List.{List, [], _∷_, _++_, map}
 use lib.Dec.{eqb}
-use lib.ListN.{length, take}
+use lib.ListN.{length, take, drop}
 use lib.Seq.{sets}
 use Rattle.texts.specs.Bytes.{_!_, isIn, every}
 use Rattle.texts.specs.Text.{textOf}
@@ -49,6 +49,9 @@ pub record ReadsBack (p : ℕ) (h : Heading) (modes payload : List ℕ) : Type 0
   -- the bytes are an undamaged part, as long as was said
   pub undamaged : UndamagedPart (written p h modes payload)
   pub long : length (written p h modes payload) ≡ partLength p (writesNoEcho p payload)
+  -- the writer puts them at the front of every output that has room, says how many they are, and leaves what lies behind them
+  pub sent : (output : List ℕ) → length (written p h modes payload) ≤ length output
+      → writes p h modes payload output ≡ record { answer = wrote (length (written p h modes payload)); output = written p h modes payload ++ drop (length (written p h modes payload)) output }
   -- a fresh receiver that is given them one by one answers complete at the last byte and not before
   pub last : singly (written p h modes payload) .said ! (length (written p h modes payload) - 1) ≡ 3
   pub before : (i : ℕ) → suc i < length (written p h modes payload) → singly (written p h modes payload) .said ! i ≢ 3

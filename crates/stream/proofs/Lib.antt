@@ -12,4 +12,5 @@ pub mod Possible
 pub mod CallLists
 pub mod Theorem
 pub mod Firstly
+pub mod Rows
 pub mod Samples
