@@ -12,7 +12,7 @@ use Rattle.stream.specs.Contents.{takesByte}
 use Rattle.stream.specs.Receiver.{endsWell}
 use Rattle.stream.specs.Calls.{answered}
 use Rattle.stream.proofs.Opening.{by-if}
-use Rattle.step.specs.Meaning.{seenOf, pushSeen, pushCount}
+use Rattle.last_bytes.specs.AsNumber.{seenOf, pushSeen, pushCount}
 use Rattle.step.specs.Decide.{withinText, betweenTexts, droppedState, drops, quietly, openedText, gapDecided, pictureDecided, startingText, kindDecided, advanced, enteredByte, blockDecided, eorDecided, checkDecided, lastDecided, textDecided, pushedState, decide, numberOf}
 use Rattle.step.specs.declared.state.State.{State}
 use Rattle.step.specs.declared.state.Decided.{Decided}

@@ -15,14 +15,15 @@ use Rattle.text_laws.proofs.KindTable.{text-back, data-block-length}
 use Rattle.text_laws.proofs.Rules.{and-split}
 use Rattle.stream.specs.State.{isDue, fitsPart, kindRead, isPossible}
 use Rattle.stream.specs.Receiver.{_⊕_}
-use Rattle.step.specs.Meaning.{seenOf, pushSeen, pushCount, stateOf}
+use Rattle.last_bytes.specs.AsNumber.{seenOf, pushSeen, pushCount}
+use Rattle.step.specs.Meaning.{stateOf}
 use Rattle.step.specs.Decide.{decide}
 use Rattle.step.specs.declared.state.Frame.{Frame}
 use Rattle.step.specs.declared.state.State.{State}
 use Rattle.step.specs.declared.state.Answer.the-variants.{Quiet}
 use Rattle.step.specs.declared.state.Effect.the-variants.{Enter}
 use Rattle.step.proofs.KindLaws.{block-most}
-use Rattle.step.proofs.SeenLaws.{length-seen}
+use Rattle.last_bytes.proofs.SeenLaws.{length-seen}
 use Rattle.receiver.specs.Run.{paid, isPayloadHere}
 use Rattle.receiver.proofs.Stretches.{paid-step, paid-first}
 

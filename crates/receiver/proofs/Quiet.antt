@@ -11,7 +11,8 @@ use lib.Seq.{getD-drop, drop-drop, length-take-le}
 use borrow.Author.Tests.{eq-eqb}
 use Rattle.stream.proofs.Machine.{Machine, Out, say, move, Quietly, still, hush}
 use Rattle.stream.proofs.Instance.{radar, machine, out, step-is-move}
-use Rattle.step.specs.Meaning.{pushSeen, pushCount, stateOf}
+use Rattle.last_bytes.specs.AsNumber.{pushSeen, pushCount}
+use Rattle.step.specs.Meaning.{stateOf}
 use Rattle.step.specs.Decide.{frame, decide, applied}
 use Rattle.step.specs.declared.state.State.{State}
 use Rattle.step.proofs.Same.{meaning}

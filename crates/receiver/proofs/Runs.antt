@@ -15,13 +15,14 @@ use Rattle.stream.specs.State.{isPossible}
 use borrow.Author.Tests.{eq-eqb}
 use Rattle.receiver.specs.declared.calls.Got.{Got}
 use Rattle.text_laws.proofs.Rules.{by-test}
-use Rattle.step.specs.Meaning.{pushSeen, stateOf}
+use Rattle.last_bytes.specs.AsNumber.{pushSeen}
+use Rattle.step.specs.Meaning.{stateOf}
 use Rattle.step.specs.Decide.{decide, applied, numberOf}
 use Rattle.step.specs.declared.state.State.{State}
 use Rattle.step.specs.declared.state.Decided.{Decided}
 use Rattle.step.specs.declared.state.Answer.the-variants.{Quiet}
 use Rattle.stream.proofs.WholeParts.{zeros-long}
-use Rattle.step.proofs.SeenLaws.{push-seen}
+use Rattle.last_bytes.proofs.SeenLaws.{push-seen}
 use Rattle.step.proofs.Same.{meaning, step-same}
 use Rattle.step.specs.declared.state.Effect.{Effect}
 use Rattle.step.specs.declared.state.Effect.the-variants.{Keep, Clear, Enter}

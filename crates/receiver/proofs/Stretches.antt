@@ -16,7 +16,7 @@ use Rattle.stream.specs.Seen.{dueByte}
 use Rattle.stream.specs.Contents.{takesByte}
 use Rattle.stream.specs.Receiver.{_⊕_}
 use Rattle.stream.proofs.Opening.{only-FD}
-use Rattle.step.specs.Meaning.{seenOf, pushSeen, pushCount}
+use Rattle.last_bytes.specs.AsNumber.{seenOf, pushSeen, pushCount}
 use Rattle.step.specs.Decide.{frame, withFrame, quietly, betweenTexts, gapDecided, withinText, advanced, enteredByte, blockDecided, textDecided, pushedState, decide, applied}
 use Rattle.step.specs.declared.state.State.{State}
 use Rattle.step.specs.declared.state.Answer.the-variants.{Quiet}

@@ -17,7 +17,7 @@ use Rattle.texts.proofs.Longer.{longer}
 use Rattle.text_laws.proofs.Rules.{by-test}
 use Rattle.stream.specs.Receiver.{_⊕_}
 use Rattle.stream.proofs.Steps.{xor-snoc}
-use Rattle.step.specs.Meaning.{pushSeen, pushCount}
+use Rattle.last_bytes.specs.AsNumber.{pushSeen, pushCount}
 use Rattle.receiver.specs.Returned.{seenAfter}
 use Rattle.receiver.proofs.Quiet.{countAfter}
 

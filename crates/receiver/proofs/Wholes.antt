@@ -30,7 +30,8 @@ use Rattle.stream.proofs.Completing.{checkedBlock, start-quiet, due-quiet}
 use Rattle.stream.proofs.Instance.{Held, held, radar, radar-laws, machine, start-long, end-long}
 use Rattle.stream.proofs.BlockRules.{start-taken, data-taken, end-taken, end-not-start}
 use Rattle.stream.proofs.WholeParts.{split-3}
-use Rattle.step.specs.Meaning.{seenOf, stateOf}
+use Rattle.last_bytes.specs.AsNumber.{seenOf}
+use Rattle.step.specs.Meaning.{stateOf}
 use Rattle.step.specs.Decide.{frame}
 use Rattle.step.specs.declared.state.State.{State}
 use Rattle.receiver.specs.Returned.{seenAfter}

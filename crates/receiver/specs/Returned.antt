@@ -3,7 +3,8 @@ use Prim.Native.Nat.{ℕ}
 use mathlib.Core.Bool.{Bool, true, false}
 use mathlib.Core.List.{List, [], _∷_}
 use Rattle.stream.specs.Calls.{Reply, answered, refused, Received}
-use Rattle.step.specs.Meaning.{pushSeen, stateOf}
+use Rattle.last_bytes.specs.AsNumber.{pushSeen}
+use Rattle.step.specs.Meaning.{stateOf}
 use Rattle.step.specs.declared.state.State.{State}
 use Rattle.step.specs.declared.state.Answer.{Answer}
 use Rattle.step.specs.declared.state.Answer.the-variants.{Quiet, Begun, Taken, Complete, Dropped, Refused}

@@ -1,8 +1,8 @@
 // Bytes between texts.
 use crate::reach::Reached;
-use step::seen::counted;
-use step::seen::due_byte;
-use step::seen::pushed;
+use last_bytes::seen::counted;
+use last_bytes::seen::due_byte;
+use last_bytes::seen::pushed;
 use step::state::Frame;
 use step::state::State;
 ghost use mathlib.Core.Path.{_≡_};

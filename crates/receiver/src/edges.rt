@@ -6,7 +6,7 @@ use crate::tally::check_behind;
 use crate::tally::last_five;
 use blocks::end::read_end;
 use blocks::start::read_start;
-use step::seen::ends_opening;
+use last_bytes::seen::ends_opening;
 use step::state::Frame;
 use step::state::State;
 use texts::kinds::kind_of;
@@ -16,7 +16,7 @@ ghost use Prim.Native.Nat.{_+_, _≤_};
 ghost use lib.ListN.{length};
 ghost use Rattle.texts.specs.Text.{FD, checkByte};
 ghost use Rattle.stream.specs.Seen.{endsOpening};
-ghost use Rattle.step.specs.Meaning.{seenOf};
+ghost use Rattle.last_bytes.specs.AsNumber.{seenOf};
 ghost use Rattle.receiver.specs.Run.{SameGrid, isIdle, isGap};
 
 // A block's check byte. Notice 49, 4(1)(1-1)(c)(ア)

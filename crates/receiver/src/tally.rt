@@ -1,5 +1,5 @@
 // What a stretch adds up to: its last bytes, and its check byte.
-use step::seen::pushed;
+use last_bytes::seen::pushed;
 ghost use mathlib.Core.Path.{_≡_};
 ghost use Prim.Native.Nat.{_≤_};
 ghost use lib.ListN.{length};

@@ -1,4 +1,3 @@
 -- The laws that the receiver's proofs share.
 pub mod KindLaws
-pub mod SeenLaws
 pub mod Same

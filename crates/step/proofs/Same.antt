@@ -16,7 +16,8 @@ use Rattle.stream.specs.Receiver as R
 use Rattle.stream.specs.Receiver.{Step, step, endsWell}
 use Rattle.text_laws.proofs.Rules.{by-test}
 use Rattle.stream.proofs.BlockRules.{start-not-end, end-not-start}
-use Rattle.step.specs.Meaning.{seenOf, pushSeen, pushCount, stateOf}
+use Rattle.last_bytes.specs.AsNumber.{seenOf, pushSeen, pushCount}
+use Rattle.step.specs.Meaning.{stateOf}
 use Rattle.step.specs.Decide.{withinText, betweenTexts, droppedState, drops, quietly, openedText, gapDecided, pictureDecided, startingText, kindDecided, advanced, enteredByte, blockDecided, eorDecided, checkDecided, lastDecided, textDecided, pushedState, decide, applied, numberOf}
 use Rattle.step.specs.declared.state.State.{State}
 use Rattle.step.specs.declared.state.Decided.{Decided}

@@ -14,7 +14,7 @@ use Rattle.texts.specs.EndBlock.{noModes}
 use Rattle.stream.specs.Seen.{endsOpening, dueByte}
 use Rattle.stream.specs.Contents.{takesByte, begunHeader, enterHeader, enterModes}
 use Rattle.stream.specs.Receiver.{_⊕_, firstDue, nextDue, endsWell}
-use Rattle.step.specs.Meaning.{seenOf, pushSeen, pushCount}
+use Rattle.last_bytes.specs.AsNumber.{seenOf, pushSeen, pushCount}
 use Rattle.step.specs.declared.state.Frame.{Frame}
 use Rattle.step.specs.declared.state.State.{State}
 use Rattle.step.specs.declared.state.Decided.{Decided}

@@ -9,20 +9,9 @@ use Rattle.texts.specs.Pictures.{isPictureCode}
 use Rattle.texts.specs.Kinds.{isKind, isStartKind, kindOf, blockLength}
 use Rattle.stream.specs.State
 use Rattle.stream.specs.Contents.{indexIn}
+use Rattle.last_bytes.specs.AsNumber.{seenOf}
 use Rattle.step.specs.declared.state.Frame.{Frame}
 use Rattle.step.specs.declared.state.State.{State}
-
--- the last bytes seen, newest first: the low bytes of a number, as many as the count says
-unfoldable pub seenOf : ℕ → ℕ → List ℕ
-seenOf seen zero = []
-seenOf seen (suc count) = seen % 256 ∷ seenOf (seen / 256) count
-
--- one more; the oldest of five falls out
-unfoldable pub pushSeen : ℕ → ℕ → ℕ
-pushSeen seen b = seen % 4294967296 * 256 + b
-
-unfoldable pub pushCount : ℕ → ℕ
-pushCount count = cond (ltb count 5) (count + 1) 5
 
 -- the state of 01's receiver
 abbrev pub stateOf : State → Rattle.stream.specs.State.State

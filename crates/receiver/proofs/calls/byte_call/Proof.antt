@@ -11,7 +11,8 @@ use Rattle.texts.specs.Part.{gridLength}
 use Rattle.stream.specs.State.{isPossible}
 use Rattle.stream.specs.Receiver.{_⊕_}
 use Rattle.stream.specs.Calls.{byteCall}
-use Rattle.step.specs.Meaning.{pushSeen, stateOf}
+use Rattle.last_bytes.specs.AsNumber.{pushSeen}
+use Rattle.step.specs.Meaning.{stateOf}
 use Rattle.step.specs.Decide.{decide, applied}
 use Rattle.step.specs.declared.state.State.{State}
 use Rattle.step.specs.declared.state.Decided.{Decided}

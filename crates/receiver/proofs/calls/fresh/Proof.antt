@@ -1,6 +1,6 @@
 -- No byte is seen, and all else is 0. Assumes nothing.
 use mathlib.Core.Path.{refl}
-use Rattle.step.specs.Meaning.{seenOf}
+use Rattle.last_bytes.specs.AsNumber.{seenOf}
 use Rattle.receiver.proofs.calls.fresh.Statement.{statement}
 use Rattle.receiver.proofs.calls.fresh.Tie as tie
 

@@ -4,7 +4,7 @@ use borrow.Author.Needs.{needs}
 use Rattle.texts.specs.Bytes.{allOf}
 use Rattle.stream.specs.State.{fitsPart, kindUnread, kindRead, isPossible}
 use Rattle.step.specs.Meaning.{frameFits}
-use Rattle.step.proofs.SeenLaws.{length-seen}
+use Rattle.last_bytes.proofs.SeenLaws.{length-seen}
 use Rattle.step.proofs.possible.is_possible.Statement.{statement}
 use Rattle.step.proofs.possible.is_possible.Tie as tie
 

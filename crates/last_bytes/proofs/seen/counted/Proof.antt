@@ -1,9 +1,9 @@
 -- Each way out is a case of the definition. Assumes nothing.
 use borrow.Author.Needs.{needs}
 use borrow.Author.Tests.{lt-ltb, le-ltb}
-use Rattle.step.specs.Meaning.{pushCount}
-use Rattle.step.proofs.seen.counted.Statement.{statement}
-use Rattle.step.proofs.seen.counted.Tie as tie
+use Rattle.last_bytes.specs.AsNumber.{pushCount}
+use Rattle.last_bytes.proofs.seen.counted.Statement.{statement}
+use Rattle.last_bytes.proofs.seen.counted.Tie as tie
 
 returns : tie.Need-returns
 unfolding pushCount

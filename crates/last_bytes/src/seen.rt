@@ -1,7 +1,7 @@
 // The last bytes seen, as one number with the newest byte lowest, and the opening among them.
 ghost use mathlib.Core.Path.{_≡_};
 ghost use Rattle.stream.specs.Seen.{endsOpening, dueByte};
-ghost use Rattle.step.specs.Meaning.{seenOf, pushSeen, pushCount};
+ghost use Rattle.last_bytes.specs.AsNumber.{seenOf, pushSeen, pushCount};
 
 // The bytes seen with one more; five of them are kept
 pub fn pushed(seen: u64, b: u8) -> u64

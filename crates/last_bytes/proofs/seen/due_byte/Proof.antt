@@ -1,7 +1,7 @@
 -- Each way out is a case of the rule by numbers. Assumes nothing.
-use Rattle.step.proofs.SeenLaws.{due-by-number}
-use Rattle.step.proofs.seen.due_byte.Statement.{statement}
-use Rattle.step.proofs.seen.due_byte.Tie as tie
+use Rattle.last_bytes.proofs.SeenLaws.{due-by-number}
+use Rattle.last_bytes.proofs.seen.due_byte.Statement.{statement}
+use Rattle.last_bytes.proofs.seen.due_byte.Tie as tie
 
 returns : tie.Need-returns
 returns c = simp (due-by-number, c .if1 .taken)

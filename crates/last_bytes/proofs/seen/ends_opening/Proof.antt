@@ -1,9 +1,9 @@
 -- Each way out is a case of the rule by numbers. Assumes nothing.
 use mathlib.Core.Bool.{and-false}
 use borrow.Author.Tests.{eq-eqb, ne-eqb}
-use Rattle.step.proofs.SeenLaws.{opening-by-number}
-use Rattle.step.proofs.seen.ends_opening.Statement.{statement}
-use Rattle.step.proofs.seen.ends_opening.Tie as tie
+use Rattle.last_bytes.proofs.SeenLaws.{opening-by-number}
+use Rattle.last_bytes.proofs.seen.ends_opening.Statement.{statement}
+use Rattle.last_bytes.proofs.seen.ends_opening.Tie as tie
 
 returns : tie.Need-returns
 returns c = simp (opening-by-number, ne-eqb _ _ (c .if1 .taken))

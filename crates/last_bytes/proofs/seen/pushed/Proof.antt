@@ -1,9 +1,9 @@
 -- The sum is the definition. Assumes nothing.
 use mathlib.Core.Path.{refl}
 use borrow.Author.Needs.{needs}
-use Rattle.step.specs.Meaning.{pushSeen}
-use Rattle.step.proofs.seen.pushed.Statement.{statement}
-use Rattle.step.proofs.seen.pushed.Tie as tie
+use Rattle.last_bytes.specs.AsNumber.{pushSeen}
+use Rattle.last_bytes.proofs.seen.pushed.Statement.{statement}
+use Rattle.last_bytes.proofs.seen.pushed.Tie as tie
 
 returns : tie.Need-returns
 unfolding pushSeen

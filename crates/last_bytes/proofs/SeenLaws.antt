@@ -13,7 +13,7 @@ use Rattle.texts.specs.Bytes.{_!_, every, same}
 use Rattle.texts.specs.Text.{opening}
 use Rattle.text_laws.proofs.Rules.{by-test, and-split}
 use Rattle.stream.specs.Seen.{endsOpening, runOf, dueByte}
-use Rattle.step.specs.Meaning.{seenOf, pushSeen, pushCount}
+use Rattle.last_bytes.specs.AsNumber.{seenOf, pushSeen, pushCount}
 
 -- as many bytes are seen as the count says
 pub length-seen : (v count : ℕ) → length (seenOf v count) ≡ count

@@ -1,0 +1,2 @@
+-- The laws of the bytes seen, kept as a number. Assumes nothing.
+pub mod SeenLaws

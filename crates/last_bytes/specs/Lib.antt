@@ -1,0 +1,2 @@
+-- The last bytes seen in the code's terms. Assumes nothing.
+pub mod AsNumber
