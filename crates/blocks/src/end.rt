@@ -1,14 +1,14 @@
 // The end block, 32 bytes, and the modes that it gives.
-use headers::radars::is_mode_byte;
-use texts::codes::is_picture_code;
-use texts::kinds::is_end_kind;
-use texts::modes::mode_of;
+use codes::table::is_picture_code;
+use kinds::table::is_end_kind;
+use modes::status::mode_of;
+use radars::places::is_mode_byte;
 ghost use mathlib.Core.Path.{_≡_};
 ghost use Prim.Native.Nat.{_+_, _≤_};
 ghost use lib.Dec.{eqb};
 ghost use lib.ListN.{length, drop};
 ghost use Rattle.texts.specs.Bytes.{_!_, every};
-ghost use Rattle.texts.specs.EndBlock.{radarPlaces, isModeByte, modesOf, isEndBlock};
+ghost use Rattle.texts.specs.EndBlock.{radarPlaces, isModeByte, modesOf};
 ghost use Rattle.blocks.specs.Read.{endRead, brokenEnd};
 
 // Whether an end block keeps its rules, and its modes, which are all 0 where it does not

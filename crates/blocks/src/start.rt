@@ -1,12 +1,12 @@
 // The start block, 32 bytes, and the header that it gives.
-use headers::calendar::is_time;
-use headers::radars::is_radar_list;
-use texts::codes::is_picture_code;
+use calendar::time::is_time;
+use codes::table::is_picture_code;
+use kinds::table::is_start_kind;
+use modes::status::clock_of;
+use modes::status::mode_of;
+use modes::status::no_echo_of;
+use radars::places::is_radar_list;
 use texts::header::Header;
-use texts::kinds::is_start_kind;
-use texts::modes::clock_of;
-use texts::modes::mode_of;
-use texts::modes::no_echo_of;
 ghost use mathlib.Core.Path.{_≡_};
 ghost use mathlib.Core.Bool.{true};
 ghost use lib.Dec.{eqb};

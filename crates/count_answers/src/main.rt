@@ -4,9 +4,9 @@
 use libc::STDIN_FILENO;
 use libc::STDOUT_FILENO;
 use receiver::calls::byte_call;
-use receiver::calls::fresh;
-use receiver::calls::number_of;
-use step::state::State;
+use states::answer::number_of;
+use states::state::State;
+use states::state::fresh;
 ghost use Prim.Native.Nat.{_≤_};
 ghost use lib.ListN.{length};
 

@@ -1,82 +1,91 @@
 // How many meshes a complete intensity or echo top part has at each level.
 use crate::counts::bytes_at;
 use crate::counts::meshes_at;
-use crate::line::Line;
-use crate::line::begin;
-use crate::line::end;
+use crate::line::Buffer;
 use crate::line::put;
+use crate::line::put_entry;
+use crate::line::put_labelled;
 use crate::line::put_number;
-use crate::line::put_small;
 use grids::answer::Found;
 
-// Where each level of intensity begins, in mm/h; level 0 is 0 mm/h. Notice 49, 5(3)(3-1)
-const RAIN: [u8; 15] = [0, 0, 1, 2, 4, 8, 12, 16, 24, 32, 40, 48, 56, 64, 80];
+// What each level of intensity stands for. Notice 49, 5(3)(3-1)
+const RAIN: [u8; 300] = *b"\
+    \x00 0 mm/h|\
+    \x01 below 1 mm/h|\
+    \x02 1 to below 2 mm/h|\
+    \x03 2 to below 4 mm/h|\
+    \x04 4 to below 8 mm/h|\
+    \x05 8 to below 12 mm/h|\
+    \x06 12 to below 16 mm/h|\
+    \x07 16 to below 24 mm/h|\
+    \x08 24 to below 32 mm/h|\
+    \x09 32 to below 40 mm/h|\
+    \x0A 40 to below 48 mm/h|\
+    \x0B 48 to below 56 mm/h|\
+    \x0C 56 to below 64 mm/h|\
+    \x0D 64 to below 80 mm/h|\
+    \x0E 80 mm/h and above";
 
-// Where each level of echo top begins, in km; level 0 is no echo. Notice 49, 5(3)(3-2)
-const HEIGHT: [u8; 9] = [0, 0, 2, 4, 6, 8, 10, 12, 14];
+// What each level of echo top stands for. Notice 49, 5(3)(3-2)
+const HEIGHT: [u8; 153] = *b"\
+    \x00 no echo|\
+    \x01 below 2 km|\
+    \x02 2 to below 4 km|\
+    \x03 4 to below 6 km|\
+    \x04 6 to below 8 km|\
+    \x05 8 to below 10 km|\
+    \x06 10 to below 12 km|\
+    \x07 12 to below 14 km|\
+    \x08 14 km and above";
 
-// Where a level begins; level 1 has no number for that
-fn put_from(line: Line, from: u8) -> Line {
-    if from == 0 {
-        return put(line, b"below ");
-    }
-    put(put_small(line, from), b" to below ")
-}
-
-// What a level stands for: `none` for 0, else from where it begins to where the next one does
-fn put_range(line: Line, level: usize, none: &[u8], begins: &[u8], unit: &[u8]) -> Line {
-    if level == 0 {
-        return put(line, none);
-    }
-    if begins.len() <= level {
-        return line;
-    }
-    if begins.len() == level + 1 {
-        return put(put(put_small(line, begins[level]), unit), b" and above");
-    }
-    put(
-        put_small(put_from(line, begins[level]), begins[level + 1]),
-        unit,
-    )
+// How many meshes there are at a level or of a value: five digits hold 40,000
+pub fn put_meshes(out: &mut Buffer, used: usize, meshes: usize) -> usize {
+    let at = put_number(out, used, meshes as u64, 7);
+    put(out, at, b" meshes ")
 }
 
 // No line for a level that does not occur
-fn level_line(level: u8, meshes: u64, none: &[u8], begins: &[u8], unit: &[u8]) {
+fn level_line(out: &mut Buffer, used: usize, level: u8, meshes: usize, ranges: &[u8]) -> usize {
     if meshes == 0 {
-        return;
+        return used;
     }
-    let l = put_number(begin(b"  level "), level as u64, 2);
-    let counted = put(put_number(put(l, b"  "), meshes, 5), b" meshes  ");
-    end(put_range(counted, level as usize, none, begins, unit));
+    let levelled = put_labelled(out, used, b"\n  level ", level as u64, 2);
+    let counted = put_meshes(out, levelled, meshes);
+    put_entry(out, counted, ranges, level)
+}
+
+fn refused_line(out: &mut Buffer, used: usize, level: u8, row: u8) -> usize {
+    let levelled = put_labelled(out, used, b"\n  level ", level as u64, 2);
+    put_labelled(out, levelled, b"  refused ", row as u64, 0)
 }
 
 // A complete part's grid is not refused: it has its 20,000 bytes and no level 15
-fn intensity_line(grid: &[u8], level: u8) {
+fn intensity_line(out: &mut Buffer, used: usize, grid: &[u8], level: u8) -> usize {
     let found = meshes_at(grid, level);
     match found {
-        Found::Value(n) => level_line(level, n as u64, b"0 mm/h", &RAIN, b" mm/h"),
-        Found::Refused(row) => {
-            let l = put_number(begin(b"  level "), level as u64, 2);
-            end(put_small(put(l, b"  refused "), row));
-        }
+        Found::Value(n) => level_line(out, used, level, n as usize, &RAIN),
+        Found::Refused(row) => refused_line(out, used, level, row),
     }
 }
 
 // The 40,000 meshes of an intensity part. Notice 49, 5(3)(3-1)
-pub fn intensity(grid: &[u8]) {
+pub fn intensity(out: &mut Buffer, used: usize, grid: &[u8]) -> usize {
+    let mut at = used;
     let mut level = 0;
     while level <= 14 {
-        intensity_line(grid, level);
+        at = intensity_line(out, at, grid, level);
         level += 1;
     }
+    at
 }
 
 // The 400 meshes of an echo top part. Notice 49, 5(3)(3-2)
-pub fn tops(payload: &[u8]) {
+pub fn tops(out: &mut Buffer, used: usize, payload: &[u8]) -> usize {
+    let mut at = used;
     let mut level = 0;
     while level <= 8 {
-        let meshes = bytes_at(payload, level) as u64;
-        level_line(level, meshes, b"no echo", &HEIGHT, b" km");
+        at = level_line(out, at, level, bytes_at(payload, level), &HEIGHT);
         level += 1;
     }
+    at
 }

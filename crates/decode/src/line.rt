@@ -1,93 +1,107 @@
-// A line of output: words and numbers are put behind each other, and written at once.
+// Output: words and numbers are put behind each other into a buffer `out`, in which the first `used`
+// bytes wait to be written. Each function gives how many wait after it.
 use libc::STDOUT_FILENO;
+ghost use Prim.Native.Nat.{_<_};
 
-// The bytes of the line so far are the first `used` of these
-pub struct Line {
-    bytes: [u8; 96],
-    used: usize,
-}
+// What io::buffer makes. Of this length and not a slice, it costs the prover less
+pub type Buffer = [u8; 4096];
 
 const HEX: [u8; 16] = *b"0123456789ABCDEF";
 
-// Writes the first `used` bytes
-fn write_first(bytes: &[u8], used: usize) {
-    if used <= bytes.len() {
-        io::write_all(STDOUT_FILENO, &bytes[..used]);
+fn write_first(bytes: &[u8], n: usize) {
+    if n <= bytes.len() {
+        io::write_all(STDOUT_FILENO, &bytes[..n]);
     }
 }
 
-// No line of this program has so many bytes; one that had would be written in two goes
-fn put_byte(line: Line, b: u8) -> Line {
-    let mut bytes = line.bytes;
-    let used = line.used;
-    if used < 96 {
-        bytes[used] = b;
-        return Line {
-            bytes,
-            used: used + 1,
-        };
-    }
-    io::write_all(STDOUT_FILENO, &bytes);
-    bytes[0] = b;
-    Line { bytes, used: 1 }
+// Writes what waits
+pub fn flush(out: &Buffer, used: usize) {
+    write_first(out, used);
 }
 
-pub fn put(line: Line, word: &[u8]) -> Line {
-    let mut l = line;
+// Where the next byte goes: a buffer that is full is written, and filled anew
+fn place(out: &Buffer, used: usize) -> usize
+    ensures { λ r. ⌜ r < 4096 ⌝ }
+{
+    if used < 4096 {
+        return used;
+    }
+    flush(out, used);
+    0
+}
+
+pub fn put_byte(out: &mut Buffer, used: usize, b: u8) -> usize {
+    let at = place(out, used);
+    out[at] = b;
+    at + 1
+}
+
+pub fn put(out: &mut Buffer, used: usize, word: &[u8]) -> usize {
+    let mut at = used;
     let mut i = 0;
     while i < word.len() {
-        l = put_byte(l, word[i]);
+        at = put_byte(out, at, word[i]);
         i += 1;
     }
-    l
+    at
 }
 
-// A line that begins with a word
-pub fn begin(word: &[u8]) -> Line {
-    put(
-        Line {
-            bytes: [0; 96],
-            used: 0,
-        },
-        word,
-    )
-}
-
-// Ends the line, and writes it
-pub fn end(line: Line) {
-    let l = put(line, b"\n");
-    let bytes = l.bytes;
-    write_first(&bytes, l.used);
-}
-
-fn put_spaces(line: Line, n: usize) -> Line {
-    let mut l = line;
-    let mut left = n;
-    while left > 0 {
-        l = put_byte(l, b' ');
-        left -= 1;
+// Spaces for the digits that a number of `digits` has not of `width`
+fn put_spaces(out: &mut Buffer, used: usize, digits: usize, width: usize) -> usize {
+    let mut at = used;
+    let mut i = digits;
+    while i < width {
+        at = put_byte(out, at, b' ');
+        i += 1;
     }
-    l
+    at
 }
 
 // A number in decimal, with spaces before it where it has fewer digits than `width`
-pub fn put_number(line: Line, n: u64, width: usize) -> Line {
+pub fn put_number(out: &mut Buffer, used: usize, n: u64, width: usize) -> usize {
     let mut digits = [0u8; 20];
     let k = io::decimal(n, &mut digits);
-    if k < width {
-        return put(put_spaces(line, width - k), &digits[..k]);
-    }
-    put(line, &digits[..k])
+    let at = put_spaces(out, used, k, width);
+    put(out, at, &digits[..k])
 }
 
-// A small number in decimal
-pub fn put_small(line: Line, n: u8) -> Line {
-    put_number(line, n as u64, 0)
+// A word, and a number after it
+pub fn put_labelled(out: &mut Buffer, used: usize, label: &[u8], n: u64, width: usize) -> usize {
+    let at = put(out, used, label);
+    put_number(out, at, n, width)
 }
 
 // A byte as two hexadecimal digits
-pub fn put_hex(line: Line, b: u8) -> Line {
-    let high = HEX[(b / 16) as usize];
-    let low = HEX[(b % 16) as usize];
-    put_byte(put_byte(line, high), low)
+pub fn put_hex(out: &mut Buffer, used: usize, b: u8) -> usize {
+    let at = put_byte(out, used, HEX[(b / 16) as usize]);
+    put_byte(out, at, HEX[(b % 16) as usize])
+}
+
+// Where the words of a code begin in a table of entries, each a code, words and `|`
+fn words_of(table: &[u8], code: u8) -> usize {
+    let mut before = b'|';
+    let mut i = 0;
+    while i < table.len() {
+        if (before == b'|') & (table[i] == code) {
+            return i + 1;
+        }
+        before = table[i];
+        i += 1;
+    }
+    i
+}
+
+// The words of a code in such a table, and nothing for a code that it does not have. One text for a
+// table costs the prover far less than a `match` with a text for each code
+pub fn put_entry(out: &mut Buffer, used: usize, table: &[u8], code: u8) -> usize {
+    let mut at = used;
+    let mut i = words_of(table, code);
+    while i < table.len() {
+        if table[i] == b'|' {
+            return at;
+        }
+        at = put_byte(out, at, table[i]);
+        i += 1;
+    }
+    at
 }

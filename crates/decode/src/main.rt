@@ -21,30 +21,18 @@
 // sample, the file stdout, is made by tests/decode.py from the model of 01.
 mod counts; // how many meshes are at a level
 mod levels; // the lines of levels
-mod line; // a line of output
+mod line; // words and numbers of the output
 mod names; // names of pictures and radars
 mod part; // the block of a part
 mod quality; // the lines of quality values
 mod totals; // how often each answer came
 
 use libc::STDIN_FILENO;
-use receiver::calls::fresh;
-use receiver::calls::number_of;
-use receiver::calls::slice_call;
-use step::state::State;
-use totals::Totals;
-use totals::count_of;
-use totals::counted;
+use slice_receiver::calls::slice_call;
+use states::answer::number_of;
+use states::state::State;
+use states::state::fresh;
 ghost use Prim.Native.Nat.{_≤_};
-
-// The receiver after some bytes, how many they were, the answers to them, and whether the input
-// goes on
-struct Heard {
-    state: State,
-    totals: Totals,
-    total: u64,
-    goes_on: bool,
-}
 
 // Bytes read so far; a count of 64 bits stays at its end, which no input reaches
 fn more(total: u64, count: usize) -> u64 {
@@ -55,100 +43,65 @@ fn more(total: u64, count: usize) -> u64 {
     u64::MAX
 }
 
-// A count of bytes taken that is more than there were counts as none
-fn within(count: usize, left: usize) -> usize
-    ensures { λ r. ⌜ r ≤ left ⌝ }
+// How many of the bytes left a call took. No call is refused, as the grid has 20,000 bytes and the
+// state is fresh or a call's, so each takes one at least; a count that cannot be counts as all
+fn taken(count: usize, left: usize) -> usize
+    requires { ⌜ 1 ≤ left ⌝ }
+    ensures { λ r. ⌜ (1 ≤ r) × (r ≤ left) ⌝ }
 {
-    if left < count {
-        return 0;
+    if 0 < count && count <= left {
+        return count;
     }
-    count
+    left
 }
 
 // At answer 3 no part is open any more. Which it was, the state before that call says: the part's
 // start text had an answer, at which an earlier call stopped
-fn tell(before: State, after: State, totals: Totals, total: u64, number: u8, grid: &[u8]) {
-    if number != 3 {
-        return;
-    }
+fn open_part(before: State) -> u8 {
     let f = before.frame;
-    part::block(count_of(totals, 3), total, f.part, after, grid);
+    f.part
 }
 
-// Gives the bytes to the receiver, and tells of each part that is complete
-fn hear(heard: Heard, grid: &mut [u8], bytes: &[u8]) -> Heard {
-    let mut s = heard.state;
-    let mut totals = heard.totals;
+// Gives the bytes to the receiver, counts its answers, and tells of each part that is complete
+fn hear(state: State, total: u64, grid: &mut [u8], bytes: &[u8], counts: &mut [u64]) -> State {
+    let mut s = state;
     let mut at = 0;
     while at < bytes.len() {
+        let part = open_part(s);
         let got = slice_call(s, grid, &bytes[at..]);
-        let count = within(got.count, bytes.len() - at);
-        if count == 0 {
-            return Heard {
-                state: s,
-                totals,
-                total: more(heard.total, at),
-                goes_on: false,
-            };
-        }
-        at += count;
-        let next = got.state;
+        at += taken(got.count, bytes.len() - at);
+        s = got.state;
         let answer = got.answer;
         let number = number_of(answer);
-        totals = counted(totals, number);
-        tell(s, next, totals, more(heard.total, at), number, grid);
-        s = next;
+        let count = totals::counted(counts, number);
+        part::block(number, count, more(total, at), part, s, grid);
     }
-    Heard {
-        state: s,
-        totals,
-        total: more(heard.total, at),
-        goes_on: true,
-    }
+    s
 }
 
-// Reads once, as much as there is, and hears it
-fn hear_some(heard: Heard, grid: &mut [u8], buffer: &mut [u8]) -> Heard {
-    let state = heard.state;
-    let totals = heard.totals;
-    let got = libc::read(STDIN_FILENO, buffer);
-    if got <= 0 {
-        return Heard {
-            state,
-            totals,
-            total: heard.total,
-            goes_on: false,
-        };
-    }
-    let n = io::count(got, buffer);
-    hear(heard, grid, &buffer[..n])
-}
-
-// A proved loop has to end, and nothing says that the input does: the loop counts its turns down,
-// from a number that no run uses up
-fn hear_all(grid: &mut [u8], buffer: &mut [u8]) -> Heard {
-    let mut heard = Heard {
-        state: fresh(),
-        totals: totals::none(),
-        total: 0,
-        goes_on: true,
-    };
+// Gives how many bytes there were. A proved loop has to end, and nothing says that the input does:
+// the loop counts its turns down, from a number that no run uses up
+fn hear_all(grid: &mut [u8], buffer: &mut [u8], counts: &mut [u64]) -> u64 {
+    let mut s = fresh();
+    let mut total = 0;
     let mut turns = u64::MAX;
     while turns > 0 {
-        heard = hear_some(heard, grid, buffer);
-        if !heard.goes_on {
-            return heard;
+        let got = libc::read(STDIN_FILENO, buffer);
+        if got <= 0 {
+            return total;
         }
+        let n = io::count(got, buffer);
+        s = hear(s, total, grid, &buffer[..n], counts);
+        total = more(total, n);
         turns -= 1;
     }
-    heard
+    total
 }
 
 fn main() {
     let mut grid = [0u8; 20000];
     let mut buffer = io::large_buffer();
-    let heard = hear_all(&mut grid, &mut buffer);
-    let totals = heard.totals;
-    totals::answer_lines(totals);
-    line::end(line::put_number(line::begin(b"bytes "), heard.total, 0));
+    let mut counts = [0u64; 23];
+    let total = hear_all(&mut grid, &mut buffer, &mut counts);
+    totals::last_lines(&counts, total);
 }

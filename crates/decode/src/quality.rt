@@ -1,8 +1,7 @@
 // How many meshes a complete quality part has of each value.
 use crate::counts::bytes_at;
-use crate::line::Line;
-use crate::line::begin;
-use crate::line::end;
+use crate::levels::put_meshes;
+use crate::line::Buffer;
 use crate::line::put;
 use crate::line::put_hex;
 use crate::line::put_number;
@@ -13,46 +12,55 @@ const CAUSES: [u8; 6] = [0x01, 0x02, 0x04, 0x08, 0x10, 0x20];
 // What bit 6 alone says
 const UNKNOWN: u8 = 0x40;
 
-// The numbers of the causes that a value names, one for each bit that is set
-fn put_causes(line: Line, value: u8) -> Line {
-    let mut l = put(line, b"causes");
+// The number of a cause, where its bit is set
+fn put_cause(out: &mut Buffer, used: usize, bit: u8, cause: usize) -> usize {
+    if bit == 0 {
+        return used;
+    }
+    put_number(out, used, cause as u64, 2)
+}
+
+// The causes that a value names, one for each bit that is set
+fn put_causes(out: &mut Buffer, used: usize, value: u8) -> usize {
+    let mut at = put(out, used, b" causes");
     let mut i = 0;
     while i < 6 {
-        if value & CAUSES[i] != 0 {
-            l = put_number(put(l, b" "), i as u64, 0);
-        }
+        at = put_cause(out, at, value & CAUSES[i], i);
         i += 1;
     }
-    l
+    at
 }
 
 // What a value says. Which cause a bit is cannot be read in the notice: it goes by its number.
 // Notice 49, 4(2)(d)(ウ)
-fn put_meaning(line: Line, value: u8) -> Line {
+fn put_meaning(out: &mut Buffer, used: usize, value: u8) -> usize {
     if value == 0 {
-        return put(line, b"no cause");
+        return put(out, used, b" no cause");
     }
     if value == UNKNOWN {
-        return put(line, b"cause unknown");
+        return put(out, used, b" cause unknown");
     }
-    put_causes(line, value)
+    put_causes(out, used, value)
 }
 
 // No line for a value that does not occur
-fn value_line(value: u8, meshes: u64) {
+fn value_line(out: &mut Buffer, used: usize, value: u8, meshes: usize) -> usize {
     if meshes == 0 {
-        return;
+        return used;
     }
-    let l = put_hex(begin(b"  value "), value);
-    let counted = put(put_number(put(l, b"  "), meshes, 5), b" meshes  ");
-    end(put_meaning(counted, value));
+    let begun = put(out, used, b"\n  value ");
+    let valued = put_hex(out, begun, value);
+    let counted = put_meshes(out, valued, meshes);
+    put_meaning(out, counted, value)
 }
 
 // The 100 meshes of a quality part, each `00` to `3F`, or `40`. Notice 49, 4(2)(d)(ウ)
-pub fn values(payload: &[u8]) {
+pub fn values(out: &mut Buffer, used: usize, payload: &[u8]) -> usize {
+    let mut at = used;
     let mut value = 0;
     while value <= UNKNOWN {
-        value_line(value, bytes_at(payload, value) as u64);
+        at = value_line(out, at, value, bytes_at(payload, value));
         value += 1;
     }
+    at
 }

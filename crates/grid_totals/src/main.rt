@@ -6,9 +6,9 @@
 use grids::answer::Found;
 use grids::answer::Laid;
 use grids::meshes::meshes_from;
-use grids::overlay::overlay;
 use libc::STDIN_FILENO;
 use libc::STDOUT_FILENO;
+use overlay::lay::overlay;
 
 fn number_of(found: Found) -> u64 {
     match found {

@@ -1,8 +1,8 @@
 // The rule of a header and modes that a writer is handed (01, row 32).
-use crate::calendar::is_time;
-use crate::radars::are_modes_for;
-use crate::radars::is_radar_list;
-use texts::codes::is_picture_code;
+use calendar::time::is_time;
+use codes::table::is_picture_code;
+use radars::places::are_modes_for;
+use radars::places::is_radar_list;
 use texts::header::Header;
 use texts::header::Heading;
 ghost use mathlib.Core.Path.{_≡_};

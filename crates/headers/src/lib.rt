@@ -1,6 +1,4 @@
 // Layer 1, headers: the rules of a header's fields, and of what a writer is handed.
 // Every function answers for every value of its parameters, by an equation with a definition of texts.
 
-pub mod calendar; // the observation time
-pub mod radars; // radar codes and modes, by place
 pub mod handed; // headers and modes that a writer is handed

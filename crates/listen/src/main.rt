@@ -2,10 +2,10 @@
 // bytes read so far, a space, the answer.
 use libc::STDIN_FILENO;
 use libc::STDOUT_FILENO;
-use receiver::calls::fresh;
-use receiver::calls::number_of;
-use receiver::calls::slice_call;
-use step::state::State;
+use slice_receiver::calls::slice_call;
+use states::answer::number_of;
+use states::state::State;
+use states::state::fresh;
 ghost use mathlib.Core.Path.{_≡_};
 ghost use Prim.Native.Nat.{_+_, _≤_};
 ghost use lib.ListN.{length};

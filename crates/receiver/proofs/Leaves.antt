@@ -1,21 +1,29 @@
 -- What every decision about a byte has: an answer that is 0 exactly where it is quiet, no refusal, and the byte among the
 -- bytes seen and in their count. Assumes nothing.
-use mathlib.Core.Path.{_≡_, refl}
-use mathlib.Core.Bool.{Bool, true, false, cond, not}
-use Prim.Native.Nat.{ℕ, _+_}
+use mathlib.Core.Path.{_≡_, refl, ap}
+use mathlib.Core.Bool.{Bool, false, cond, not}
+use mathlib.Core.List.{List}
+use Prim.Native.Nat.{ℕ, _+_, _<_}
 use lib.Dec.{eqb, ltb}
+use lib.ListN.{length}
 use Rattle.texts.specs.Text.{EOR, TPAD}
 use Rattle.texts.specs.Pictures.{isPictureCode}
 use Rattle.texts.specs.Kinds.{isKind, isStartKind, isEndKind, kindOf, blockLength}
+use Rattle.texts.specs.Part.{zeros, gridLength}
 use Rattle.stream.specs.Seen.{endsOpening, dueByte}
 use Rattle.stream.specs.Contents.{takesByte}
-use Rattle.stream.specs.Receiver.{endsWell}
+use Rattle.stream.specs.Receiver.{step, endsWell}
 use Rattle.stream.specs.Calls.{answered}
-use Rattle.stream.proofs.Opening.{by-if}
+use Rattle.text_laws.proofs.Rules.{by-if}
 use Rattle.last_bytes.specs.AsNumber.{seenOf, pushSeen, pushCount}
-use Rattle.step.specs.Decide.{withinText, betweenTexts, droppedState, drops, quietly, openedText, gapDecided, pictureDecided, startingText, kindDecided, advanced, enteredByte, blockDecided, eorDecided, checkDecided, lastDecided, textDecided, pushedState, decide, numberOf}
-use Rattle.step.specs.declared.state.State.{State}
-use Rattle.step.specs.declared.state.Decided.{Decided}
+use Rattle.step.specs.Decide.{withinText, betweenTexts, droppedState, drops, quietly, openedText, gapDecided, pictureDecided, startingText, kindDecided, advanced, enteredByte, blockDecided, eorDecided, checkDecided, lastDecided, textDecided, pushedState, decide}
+use Rattle.last_bytes.proofs.SeenLaws.{push-seen}
+use Rattle.states.specs.Meaning.{stateOf, numberOf, applied, appliedTo}
+use Rattle.states.specs.declared.state.State.{State}
+use Rattle.states.specs.declared.grid.Effect.{Effect}
+use Rattle.states.specs.declared.grid.Effect.the-variants.{Keep, Clear, Enter}
+use Rattle.step.specs.declared.decide.Decided.{Decided}
+use Rattle.step.proofs.Same.{meaning, step-same}
 use Rattle.receiver.specs.Returned.{replyOf, isQuiet}
 
 either : {A : Type 0} (P : A → Type 0) (c : Bool) {x y : A} → P x → P y → P (cond c x y)
@@ -99,3 +107,14 @@ module _ (s : State) (b : ℕ) where
       either Leaf (endsOpening (seenOf (s .seen) (s .frame .count)) b) opened-leaf
       (either Leaf (eqb (s .frame .place) 0) gap-leaf
       (either Leaf (eqb (s .frame .place) 1) picture-leaf (either Leaf (eqb (s .frame .place) 2) kind-leaf text-leaf)))
+
+-- and it means the step of `stream`
+pub same-step : (s : State) (g : List ℕ) (b : ℕ) → b < 256 → meaning g b (decide s b) ≡ step (stateOf s) g b
+same-step s g b h = step-same s g b (push-seen (s .seen) (s .frame .count) b h)
+
+-- on a grid of 20,000 bytes an effect is the decision's
+pub applied-here : (g : List ℕ) (e : Effect) (b : ℕ) → length g ≡ gridLength → appliedTo g e b ≡ applied g e b
+unfolding appliedTo applied
+applied-here g Keep b h = refl
+applied-here g Clear b h = ap zeros h
+applied-here g (Enter i) b h = refl

@@ -1,31 +1,61 @@
 -- A payload byte of the text under way: the state that it comes to is possible, and what the decision is. Assumes nothing.
-use mathlib.Core.Path.{_≡_, sym, ap, _∙_, subst}
+use mathlib.Core.Path.{_≡_, refl, sym, ap, _∙_, subst}
 use mathlib.Core.Logic.{_≢_}
 use mathlib.Core.Bool.{true, false, not, and-false, true≢false}
 use Prim.Native.Nat.{ℕ, _+_, _*_, _-_, _≤_, _<_}
 use native.Mathlib.Omega.{arith}
 use lib.Dec.{eqb}
 use lib.ListN.{length}
-use borrow.Author.Tests.{eqb-true, eqb-false, eq-eqb, ne-eqb, leb-true, le-leb, ltb-true, not-true}
+use borrow.Author.Tests.{eqb-true, eqb-false, eq-eqb, ne-eqb, leb-true, le-leb, ltb-true, lt-ltb, not-true}
 use Rattle.texts.specs.Bytes.{allOf}
 use Rattle.texts.specs.Pictures.{isPictureCode}
 use Rattle.texts.specs.Kinds.{kinds, isKind, isStartKind, isEndKind, isDataKind, partOf, textNumber, kindOf, blockLength, dataBlockLength}
 use Rattle.texts.specs.DataBlock.{isPayloadByte}
-use Rattle.text_laws.proofs.KindTable.{text-back, data-block-length}
+use Rattle.text_laws.proofs.KindTable.{text-back, data-block-length, block-most}
 use Rattle.text_laws.proofs.Rules.{and-split}
+use Rattle.text_laws.proofs.Payload.{payload-below}
 use Rattle.stream.specs.State.{isDue, fitsPart, kindRead, isPossible}
+use Rattle.stream.specs.Contents.{takesByte}
 use Rattle.stream.specs.Receiver.{_⊕_}
+use Rattle.stream.proofs.Opening.{only-FD}
 use Rattle.last_bytes.specs.AsNumber.{seenOf, pushSeen, pushCount}
-use Rattle.step.specs.Meaning.{stateOf}
-use Rattle.step.specs.Decide.{decide}
-use Rattle.step.specs.declared.state.Frame.{Frame}
-use Rattle.step.specs.declared.state.State.{State}
-use Rattle.step.specs.declared.state.Answer.the-variants.{Quiet}
-use Rattle.step.specs.declared.state.Effect.the-variants.{Enter}
-use Rattle.step.proofs.KindLaws.{block-most}
+use Rattle.states.specs.Meaning.{stateOf}
+use Rattle.step.specs.Decide.{withinText, advanced, enteredByte, blockDecided, textDecided, pushedState, decide}
+use Rattle.states.specs.declared.state.Frame.{Frame}
+use Rattle.states.specs.declared.state.State.{State}
+use Rattle.states.specs.declared.answer.Answer.the-variants.{Quiet}
+use Rattle.states.specs.declared.grid.Effect.the-variants.{Enter}
 use Rattle.last_bytes.proofs.SeenLaws.{length-seen}
-use Rattle.receiver.specs.Run.{paid, isPayloadHere}
-use Rattle.receiver.proofs.Stretches.{paid-step, paid-first}
+use Rattle.receiver.specs.Paid.{paid, isPayloadHere}
+
+-- where payload byte `place` of a kind's block enters the grid
+abbrev pub spot : ℕ → ℕ → ℕ
+spot kind place = 2000 * (textNumber kind - 1) + (place - 3)
+
+module _ (s : State) (place check seen count b : ℕ)
+    (start : isStartKind (s .frame .kind) ≡ false) (end : isEndKind (s .frame .kind) ≡ false)
+    (three : 3 ≤ place) (long : place < blockLength (s .frame .kind))
+    (rule : isPayloadByte (partOf (s .frame .kind)) b ≡ true) where
+  pub paid-step :
+      decide (paid s place check seen count) b
+      ≡ record { next = paid s (place + 1) (check ⊕ b) (pushSeen seen b) (pushCount count); answer = Quiet; effect = Enter (spot (s .frame .kind) place) }
+  unfolding decide pushedState textDecided blockDecided takesByte enteredByte advanced withinText paid
+  paid-step =
+      simp (
+        only-FD (seenOf seen count) b (λ e. omega (arith, e, payload-below _ b rule)),
+        ne-eqb place 0 (omega (arith, three)),
+        ne-eqb place 1 (omega (arith, three)),
+        ne-eqb place 2 (omega (arith, three)),
+        lt-ltb place (blockLength (s .frame .kind)) long,
+        start,
+        end,
+        rule,
+      )
+
+-- the state where the payload byte is the first
+pub paid-first : (s : State) → paid s (s .frame .place) (s .frame .check) (s .seen) (s .frame .count) ≡ s
+unfolding paid
+paid-first s = refl
 
 -- the tests of the definition, as facts
 pub record Here (f : Frame) (b : ℕ) : Type 0 where

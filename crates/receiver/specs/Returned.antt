@@ -4,14 +4,10 @@ use mathlib.Core.Bool.{Bool, true, false}
 use mathlib.Core.List.{List, [], _∷_}
 use Rattle.stream.specs.Calls.{Reply, answered, refused, Received}
 use Rattle.last_bytes.specs.AsNumber.{pushSeen}
-use Rattle.step.specs.Meaning.{stateOf}
-use Rattle.step.specs.declared.state.State.{State}
-use Rattle.step.specs.declared.state.Answer.{Answer}
-use Rattle.step.specs.declared.state.Answer.the-variants.{Quiet, Begun, Taken, Complete, Dropped, Refused}
-use Rattle.step.specs.declared.state.Effect.{Effect}
-use Rattle.step.specs.declared.state.Effect.the-variants.{Keep, Clear, Enter}
-use Rattle.texts.specs.Part.{zeros}
-use lib.ListN.{length, set}
+use Rattle.states.specs.Meaning.{stateOf}
+use Rattle.states.specs.declared.state.State.{State}
+use Rattle.states.specs.declared.answer.Answer.{Answer}
+use Rattle.states.specs.declared.answer.Answer.the-variants.{Quiet, Begun, Taken, Complete, Dropped, Refused}
 use Rattle.receiver.specs.declared.calls.Got.{Got}
 
 -- 01's numbers; a refusal is told apart from an answer
@@ -44,9 +40,3 @@ isQuiet Taken = false
 isQuiet Complete = false
 isQuiet (Dropped n) = false
 isQuiet (Refused n) = false
-
--- an effect on a grid of any length
-unfoldable pub appliedTo : List ℕ → Effect → ℕ → List ℕ
-appliedTo g Keep b = g
-appliedTo g Clear b = zeros (length g)
-appliedTo g (Enter i) b = set g i b

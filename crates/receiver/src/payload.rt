@@ -1,28 +1,13 @@
-// Payload: a whole data text's at once, or as far as it goes.
-use crate::reach::Reached;
-use crate::reach::paid_state;
-use crate::tally::check_behind;
-use crate::tally::last_five;
-use last_bytes::seen::counted;
-use last_bytes::seen::pushed;
-use step::state::Frame;
-use step::state::State;
-use texts::bytes::put;
-use texts::codes::is_picture_code;
-use texts::kinds::block_length;
-use texts::kinds::data_block_length;
-use texts::kinds::is_kind;
-use texts::kinds::kind_of;
-use texts::kinds::part_of_kind;
-use texts::kinds::text_of_kind;
-use texts::payload::are_payload_bytes;
+// A byte inside a payload.
+use codes::table::is_picture_code;
+use kinds::table::is_kind;
+use kinds::table::kind_of;
+use lengths::block::data_block_length;
+use states::state::Frame;
+use states::state::State;
 use texts::payload::is_payload_byte;
 ghost use mathlib.Core.Path.{_≡_};
-ghost use mathlib.Core.Bool.{false};
-ghost use Prim.Native.Nat.{_≤_, _<_, _*_, _-_};
-ghost use lib.ListN.{length};
-ghost use Rattle.texts.specs.Kinds.{isStartKind, isEndKind, textNumber, blockLength};
-ghost use Rattle.receiver.specs.Run.{Same, isPayloadHere};
+ghost use Rattle.receiver.specs.Paid.{paid, isPayloadHere};
 
 // Whether a byte is payload of the data text that is under way and due. Where it is, the state is
 // possible (01, row 2); a byte outside a payload is told by the first tests.
@@ -51,84 +36,25 @@ pub(crate) fn is_payload_here(f: Frame, b: u8) -> bool
     is_kind(f.kind) & is_picture_code(f.picture) & is_payload_byte(f.part, b)
 }
 
-// Where a data text's payload begins in the grid. Notice 49, 4(1)(1-1)(d)(ウ)
-fn payload_base(kind: u8) -> usize
-    requires { ⌜ isStartKind kind ≡ false ⌝ }
-    requires { ⌜ isEndKind kind ≡ false ⌝ }
-    requires { ⌜ 3 < blockLength kind ⌝ }
-    ensures { λ r. ⌜ r ≡ 2000 * (textNumber kind - 1) ⌝ }
-    ensures { λ r. ⌜ r ≤ 18000 ⌝ }
-{
-    2000 * ((text_of_kind(kind) - 1) as usize)
-}
-
-// Payload bytes from here on, as far as they keep their rule and the block goes.
-// Notice 49, 4(1)(1-1)(c)(エ), 4(1)(1-2)(c)(エ), 4(2)(c)(エ)
-fn payload_run(s: State, grid: &mut [u8], bytes: &[u8], from: usize) -> Reached
-    requires { ⌜ isStartKind (s .frame .kind) ≡ false ⌝ }
-    requires { ⌜ isEndKind (s .frame .kind) ≡ false ⌝ }
-    requires { ⌜ 3 ≤ s .frame .place ⌝ }
-    requires { ⌜ s .frame .place < blockLength (s .frame .kind) ⌝ }
-    requires { ⌜ from ≤ length (now bytes) ⌝ }
-    requires { ⌜ length (now grid) ≡ 20000 ⌝ }
-    ensures { λ r. ⌜ Same s (now (grid .entry)) from (r .state) (now (grid .exit)) (r .at) (now (bytes .entry)) ⌝ }
+// The state further on: place, check byte and the bytes seen have moved
+pub fn paid_state(s: State, place: u16, check: u8, seen: u64, count: u8) -> State
+    ensures { λ r. ⌜ r ≡ paid s place check seen count ⌝ }
 {
     let f = s.frame;
-    let part = part_of_kind(f.kind);
-    let end = block_length(f.kind);
-    let base = payload_base(f.kind);
-    let mut place = f.place;
-    let mut check = f.check;
-    let mut count = f.count;
-    let mut seen = s.seen;
-    let mut i = from;
-    while i < bytes.len() {
-        let b = bytes[i];
-        if (end <= place) | !is_payload_byte(part, b) {
-            return Reached {
-                state: paid_state(s, place, check, seen, count),
-                at: i,
-            };
-        }
-        grid[base + ((place - 3) as usize)] = b;
-        seen = pushed(seen, b);
-        count = counted(count);
-        check = check ^ b;
-        place += 1;
-        i += 1;
-    }
-    Reached {
-        state: paid_state(s, place, check, seen, count),
-        at: i,
-    }
-}
-
-// A whole payload at once where all of it is there and keeps its rule, else as far as it goes.
-// Notice 49, 4(1)(1-1)(c)(エ), 4(1)(1-2)(c)(エ), 4(2)(c)(エ)
-pub(crate) fn payload_ahead(s: State, grid: &mut [u8], bytes: &[u8], from: usize) -> Reached
-    requires { ⌜ isStartKind (s .frame .kind) ≡ false ⌝ }
-    requires { ⌜ isEndKind (s .frame .kind) ≡ false ⌝ }
-    requires { ⌜ 3 ≤ s .frame .place ⌝ }
-    requires { ⌜ s .frame .place < blockLength (s .frame .kind) ⌝ }
-    requires { ⌜ from ≤ length (now bytes) ⌝ }
-    requires { ⌜ length (now grid) ≡ 20000 ⌝ }
-    ensures { λ r. ⌜ Same s (now (grid .entry)) from (r .state) (now (grid .exit)) (r .at) (now (bytes .entry)) ⌝ }
-{
-    let f = s.frame;
-    let end = block_length(f.kind);
-    let n = (end - 3) as usize;
-    if (f.place != 3) | (f.count != 5) | (bytes.len() - from < n) {
-        return payload_run(s, grid, bytes, from);
-    }
-    let payload = &bytes[from..from + n];
-    if !are_payload_bytes(part_of_kind(f.kind), payload) {
-        return payload_run(s, grid, bytes, from);
-    }
-    put(grid, payload_base(f.kind), payload);
-    let check = check_behind(f.check, payload);
-    let seen = last_five(payload);
-    Reached {
-        state: paid_state(s, end, check, seen, 5),
-        at: from + n,
+    let header = s.header;
+    let modes = s.modes;
+    State {
+        seen,
+        frame: Frame {
+            place,
+            kind: f.kind,
+            picture: f.picture,
+            part: f.part,
+            due: f.due,
+            check,
+            count,
+        },
+        header,
+        modes,
     }
 }

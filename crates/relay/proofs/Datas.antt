@@ -1,5 +1,5 @@
 -- The data blocks that are written are those of the part, in order, and their payloads are the payload. Assumes nothing.
-use mathlib.Core.Path.{_≡_, refl, sym, ap, ap₂, _∙_, subst}
+use mathlib.Core.Path.{_≡_, refl, sym, ap, _∙_, subst}
 use mathlib.Core.Bool.{Bool, true, false, _&&_, _||_}
 use mathlib.Core.List.{List, [], _∷_, _++_}
 use Prim.Native.Nat.{ℕ, zero, suc, _+_, _*_, _-_, _≤_, _<_}
@@ -7,17 +7,16 @@ use native.Mathlib.Nat.{suc-mul, zero-mul}
 use native.Mathlib.Omega.{arith}
 use lib.Dec.{eqb, lit≤}
 use lib.ListN.{length, take, drop, length-drop, take-append-drop}
-use lib.Seq.{length-take-le, take-all}
+use lib.Seq.{length-take-le}
 use borrow.Author.Tests.{eqb-true, eq-eqb, ne-eqb}
-use Rattle.texts.specs.Bytes.{_!_, every}
-use Rattle.texts.specs.Text.{FD}
+use Rattle.texts.specs.Bytes.{every}
 use Rattle.texts.specs.Pictures.{isPictureCode}
-use Rattle.texts.specs.Kinds.{kinds, isPartNumber, isKind, isDataKind, partOf, textNumber, kindOf, blockLength, dataBlockLength, dataTexts, payloadLength}
-use Rattle.texts.specs.DataBlock.{isPayloadByte, isDataBlock}
+use Rattle.texts.specs.Kinds.{kinds, isKind, isDataKind, partOf, textNumber, kindOf, blockLength, dataBlockLength, dataTexts}
+use Rattle.texts.specs.DataBlock.{isPayloadByte}
 use Rattle.texts.specs.Part.{inOrder, payloadsOf}
 use Rattle.texts.proofs.Finite.{same-tests}
 use Rattle.text_laws.proofs.Rules.{and-split, and-join}
-use Rattle.text_laws.proofs.Blocks.{DataRules, data-keeps}
+use Rattle.text_laws.proofs.Blocks.{data-keeps}
 use Rattle.relay.specs.Written.{blockOf, dataBlocks}
 use Rattle.relay.proofs.Kept.{OneToThree, one, two, three}
 

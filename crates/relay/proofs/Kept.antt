@@ -1,28 +1,25 @@
 -- The blocks that are written keep their rules, and what was handed in is read off them again. Assumes nothing.
-use mathlib.Core.Path.{_≡_, refl, sym, ap, ap₂, _∙_, subst}
-use mathlib.Core.Logic.{_⊎_, inl, inr}
-use mathlib.Core.Bool.{Bool, true, false, cond, _&&_}
-use mathlib.Core.List.{List, [], _∷_, _++_, map}
-use Prim.Native.Nat.{ℕ, suc, _+_, _*_, _-_, _/_, _%_, _≤_, _<_, max}
+use mathlib.Core.Path.{_≡_, refl, sym, ap, _∙_, subst}
+use mathlib.Core.Bool.{Bool, true, false}
+use mathlib.Core.List.{List, [], _∷_, map}
+use Prim.Native.Nat.{ℕ, suc, _+_, _-_, _/_, _%_, _≤_, _<_}
 use native.Mathlib.Omega.{arith}
 use lib.Dec.{eqb, leb, lit≤}
-use lib.ListN.{length, take, drop}
+use lib.ListN.{length}
 use lib.Seq.{take-all}
-use borrow.Author.Tests.{eqb-true, eqb-false, leb-true, eq-eqb, ne-eqb, le-leb, not-true}
+use borrow.Author.Tests.{eqb-true, eqb-false, leb-true, le-leb, not-true}
 use Rattle.texts.specs.Bytes.{_!_, isIn, every, allOf, bit}
-use Rattle.texts.specs.Text.{FD}
 use Rattle.texts.specs.Pictures.{isPictureCode}
 use Rattle.texts.specs.Kinds.{kinds, isPartNumber, isKind, isStartKind, isEndKind, partOf, textNumber, kindOf}
-use Rattle.texts.specs.StartBlock.{noEchoOf, modeOf, modeByte, hasMode, isClockByte, clockOf, clockBytes, isDigit, digitPlaces, digitsOf, isTime, isTimeText, timeTextOf, isRadarList, radarsOf, isStartBlock, headerOf}
+use Rattle.texts.specs.StartBlock.{noEchoOf, modeOf, modeByte, hasMode, isClockByte, clockOf, clockBytes, isDigit, digitsOf, isTime, isTimeText, isRadarList, isStartBlock, headerOf}
 use Rattle.texts.specs.EndBlock.{radarPlaces, isModeByte, isEndBlock, modesOf, highest}
 use Rattle.texts.specs.Part.{zeros}
 use Rattle.texts.specs.Handed.{isModeFor, areModesFor, isHeading, isHanded}
-use Rattle.texts.specs.declared.header.Header.{Header}
 use Rattle.texts.specs.declared.header.Heading.{Heading}
 use Rattle.texts.proofs.Tests.{by-place, places}
 use Rattle.texts.proofs.Finite.{same-tests}
-use Rattle.text_laws.proofs.Rules.{by-test, never, and-split, and-join, every-at, every-in, rule-at}
-use Rattle.text_laws.proofs.Blocks.{StartRules, start-keeps, EndRules, end-keeps}
+use Rattle.text_laws.proofs.Rules.{by-test, and-split, and-join, every-at, every-in, rule-at}
+use Rattle.text_laws.proofs.Blocks.{start-keeps, EndRules, end-keeps}
 use Rattle.relay.specs.Written.{statusByte, char, timeText, blockOf, startContents, endContents}
 use Rattle.relay.specs.Demand2.{Taken}
 

@@ -1,9 +1,9 @@
 -- Written reads back: the bytes are an undamaged part, and a receiver that takes them holds what was handed in. Assumes nothing.
 use mathlib.Core.Path.{_≡_, refl, sym, ap, ap₂, _∙_, subst}
-use mathlib.Core.Logic.{_⊎_, inl, inr, _≢_, _↔_}
-use mathlib.Core.Bool.{Bool, true, false, cond, not, _&&_}
+use mathlib.Core.Logic.{_⊎_, inl, inr}
+use mathlib.Core.Bool.{Bool, true, false, not, _&&_}
 use mathlib.Core.List.{List, [], _∷_, _++_, map, append-assoc}
-use Prim.Native.Nat.{ℕ, zero, suc, _+_, _*_, _-_, _≤_, _<_}
+use Prim.Native.Nat.{ℕ, suc, _+_, _*_, _-_, _≤_}
 use native.Mathlib.Nat.{zero-add, mul-le-mul-right}
 use native.Mathlib.Omega.{arith}
 use lib.Dec.{eqb, ltb, lit≤}
@@ -11,23 +11,22 @@ use lib.ListN.{length, getD, take, drop, replicate, length-append}
 use lib.Seq.{take-suc, take-all, length-take-le}
 use borrow.Author.Tests.{eqb-true, le-ltb, not-true}
 use Rattle.texts.specs.Bytes.{_!_, every}
-use Rattle.texts.specs.Kinds.{isPartNumber, partOf, kindOf, dataBlockLength, dataTexts, partLength, payloadLength}
-use Rattle.texts.specs.StartBlock.{noEchoOf, modeOf, radarsOf, isStartBlock, headerOf}
+use Rattle.texts.specs.Kinds.{isPartNumber, kindOf, dataBlockLength, dataTexts, partLength, payloadLength}
+use Rattle.texts.specs.StartBlock.{noEchoOf, modeOf, radarsOf, headerOf}
 use Rattle.texts.specs.DataBlock.{isPayloadByte}
 use Rattle.texts.specs.EndBlock.{isEndBlock, modesOf, highest}
-use Rattle.texts.specs.Part.{Part, partBytes, inOrder, startPart, dataTextsAfter, isPart, UndamagedPart, gridLength, payloadsOf, zeros, gridOf, partHeader, partModes}
+use Rattle.texts.specs.Part.{Part, partBytes, inOrder, startPart, isPart, UndamagedPart, gridLength, payloadsOf, zeros, gridOf, partHeader, partModes}
 use Rattle.texts.specs.declared.header.Header.{Header}
 use Rattle.texts.specs.declared.header.Heading.{Heading}
 use Rattle.text_laws.proofs.Rules.{by-test, and-split}
 use Rattle.text_laws.proofs.KindTable.{most-texts, no-texts}
-use Rattle.text_laws.proofs.Blocks.{PartRules, part-keeps}
+use Rattle.text_laws.proofs.Blocks.{part-keeps}
 use Rattle.text_laws.proofs.Parts.{part-length, payload-fits}
 use Rattle.stream.specs.Calls.{Call, onGrid, byte, received, singly}
-use Rattle.stream.specs.Demand3.{EndsUndamaged, Demand3}
 use Rattle.stream.proofs.CallLists.{singly-taken}
 use Rattle.stream.proofs.Theorem.{demand-3}
 use Rattle.stream.proofs.Firstly.{not-before}
-use Rattle.relay.specs.Written.{writesNoEcho, statusByte, blockOf, startContents, endContents, dataBlocks, writtenPart, isPayload, Sent, wrote, writes}
+use Rattle.relay.specs.Written.{writesNoEcho, blockOf, startContents, endContents, dataBlocks, writtenPart, isPayload, Sent, wrote, writes}
 use Rattle.relay.specs.Demand2.{Taken, written, writtenHeader, ReadsBack}
 use Rattle.relay.proofs.Kept.{OneToThree, one, two, three, part-is, kind-edges, picture, top-mode, mode-back, start-kept, start-header, status-back, end-kept, end-modes}
 use Rattle.relay.proofs.Datas.{data-order, data-count, data-payloads}

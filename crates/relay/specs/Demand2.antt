@@ -9,7 +9,7 @@ use lib.ListN.{length, take, drop}
 use lib.Seq.{sets}
 use Rattle.texts.specs.Bytes.{_!_, isIn, every}
 use Rattle.texts.specs.Text.{textOf}
-use Rattle.texts.specs.Kinds.{isPartNumber, dataTexts, partLength, payloadLength}
+use Rattle.texts.specs.Kinds.{isPartNumber, partLength, payloadLength}
 use Rattle.texts.specs.StartBlock.{noEchoOf, modeOf, modeByte}
 use Rattle.texts.specs.EndBlock.{highest}
 use Rattle.texts.specs.Part.{Part, partBytes, startPart, dataTextsAfter, UndamagedPart, gridLength, zeros, gridOf, partHeader, partModes}
@@ -17,7 +17,7 @@ use Rattle.texts.specs.Handed.{headingOf, isHanded}
 use Rattle.texts.specs.declared.header.Header.{Header}
 use Rattle.texts.specs.declared.header.Heading.{Heading}
 use Rattle.stream.specs.Calls.{Call, received, singly}
-use Rattle.relay.specs.Written.{writesNoEcho, statusByte, writtenPart, isPayload, Sent, wrote, writes}
+use Rattle.relay.specs.Written.{writesNoEcho, statusByte, writtenPart, isPayload, wrote, writes}
 
 -- What the writer takes: rows 31 to 33 do not refuse it, and header and modes have the lengths of the code's arrays
 pub record Taken (p : ℕ) (h : Heading) (modes payload : List ℕ) : Type 0 where

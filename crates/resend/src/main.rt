@@ -3,13 +3,13 @@
 // is left out. What must be written, the file stdout, is made by tests/differential.py from the
 // second implementation in tests/second.
 use headers::handed::heading_of;
+use lengths::part::payload_length;
 use libc::STDIN_FILENO;
 use libc::STDOUT_FILENO;
-use receiver::calls::fresh;
-use receiver::calls::number_of;
-use receiver::calls::slice_call;
-use step::state::State;
-use texts::kinds::payload_length;
+use slice_receiver::calls::slice_call;
+use states::answer::number_of;
+use states::state::State;
+use states::state::fresh;
 use writer::part::Wrote;
 use writer::part::write_part;
 ghost use Prim.Native.Nat.{_≤_};

@@ -2,7 +2,7 @@
 use crate::print::end_line;
 use crate::print::number;
 use crate::print::word;
-use grids::clock::clock_steps;
+use clock::steps::clock_steps;
 
 fn line(from: u16, to: u16) {
     word(b"clock");

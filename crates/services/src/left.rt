@@ -5,9 +5,9 @@ use crate::print::number;
 use crate::print::refused;
 use crate::print::word;
 use receiver::calls::byte_call;
-use receiver::calls::fresh;
-use receiver::calls::number_of;
-use step::state::State;
+use states::answer::number_of;
+use states::state::State;
+use states::state::fresh;
 use stored::left::Left;
 use stored::left::bytes_left;
 

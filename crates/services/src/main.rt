@@ -24,13 +24,13 @@
 mod clocks;
 mod left;
 mod levels;
+mod made_up;
 mod overlays;
 mod parts;
 mod payloads;
 mod print;
 mod refusals;
 mod samples;
-mod states;
 mod sums;
 
 fn main() {
@@ -40,5 +40,5 @@ fn main() {
     clocks::lines();
     payloads::lines();
     left::lines();
-    states::lines();
+    made_up::lines();
 }

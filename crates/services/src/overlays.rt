@@ -7,7 +7,7 @@ use crate::samples::fill_grid;
 use crate::sums::about;
 use crate::sums::adler;
 use grids::answer::Laid;
-use grids::overlay::overlay;
+use overlay::lay::overlay;
 ghost use Prim.Native.Nat.{_<_, _≤_};
 
 // What the third grid is full of before a call: level 15, which is no ground to refuse a grid that

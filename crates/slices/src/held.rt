@@ -3,7 +3,7 @@ use crate::print::byte;
 use crate::print::end_line;
 use crate::print::list;
 use crate::print::number;
-use step::state::State;
+use states::state::State;
 
 // Adler-32 begun at 0, so that zeros have 0: a sum of the bytes, and a sum of these sums, so that a
 // byte's place tells too

@@ -23,8 +23,8 @@ mod runs;
 ghost use Prim.Native.Nat.{_+_, _≤_};
 ghost use lib.ListN.{length};
 use libc::STDIN_FILENO;
-use receiver::calls::fresh;
-use step::state::State;
+use states::state::State;
+use states::state::fresh;
 
 fn two_bytes(high: u8, low: u8) -> usize {
     high as usize * 256 + low as usize

@@ -5,11 +5,11 @@ use crate::print::number;
 use crate::print::word;
 use receiver::calls::Got;
 use receiver::calls::byte_call;
-use receiver::calls::number_of;
-use receiver::calls::slice_call;
-use step::state::Answer;
-use step::state::Frame;
-use step::state::State;
+use slice_receiver::calls::slice_call;
+use states::answer::Answer;
+use states::answer::number_of;
+use states::state::Frame;
+use states::state::State;
 
 // Too few bytes for a grid, and too many
 const LENGTHS: [usize; 3] = [0, 19999, 20001];

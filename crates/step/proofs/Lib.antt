@@ -1,3 +1,2 @@
--- The laws that the receiver's proofs share.
-pub mod KindLaws
+-- What the code decides is 01's step.
 pub mod Same

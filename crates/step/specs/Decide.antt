@@ -1,10 +1,9 @@
 -- What one byte does, in the code's own terms: next state, answer, effect on the grid. Each definition here is one of `stream`'s
 -- Receiver, row for row; proofs/Same shows that they are the same. Assumes nothing.
 use Prim.Native.Nat.{ℕ, _+_, _*_, _-_}
-use mathlib.Core.Bool.{Bool, true, false, cond, _&&_, _||_, not}
-use mathlib.Core.List.{List, [], _∷_}
+use mathlib.Core.Bool.{cond, not}
+use mathlib.Core.List.{List}
 use lib.Dec.{eqb, ltb}
-use lib.ListN.{set}
 use Rattle.texts.specs.Text.{FD, EOR, TPAD}
 use Rattle.texts.specs.Pictures.{isPictureCode}
 use Rattle.texts.specs.Kinds.{isKind, isStartKind, isEndKind, partOf, textNumber, kindOf, blockLength}
@@ -15,13 +14,13 @@ use Rattle.stream.specs.Seen.{endsOpening, dueByte}
 use Rattle.stream.specs.Contents.{takesByte, begunHeader, enterHeader, enterModes}
 use Rattle.stream.specs.Receiver.{_⊕_, firstDue, nextDue, endsWell}
 use Rattle.last_bytes.specs.AsNumber.{seenOf, pushSeen, pushCount}
-use Rattle.step.specs.declared.state.Frame.{Frame}
-use Rattle.step.specs.declared.state.State.{State}
-use Rattle.step.specs.declared.state.Decided.{Decided}
-use Rattle.step.specs.declared.state.Answer.{Answer}
-use Rattle.step.specs.declared.state.Answer.the-variants.{Quiet, Begun, Taken, Complete, Dropped, Refused}
-use Rattle.step.specs.declared.state.Effect.{Effect}
-use Rattle.step.specs.declared.state.Effect.the-variants.{Keep, Clear, Enter}
+use Rattle.states.specs.declared.state.Frame.{Frame}
+use Rattle.states.specs.declared.state.State.{State}
+use Rattle.step.specs.declared.decide.Decided.{Decided}
+use Rattle.states.specs.declared.answer.Answer.{Answer}
+use Rattle.states.specs.declared.answer.Answer.the-variants.{Quiet, Begun, Taken, Complete, Dropped}
+use Rattle.states.specs.declared.grid.Effect.{Effect}
+use Rattle.states.specs.declared.grid.Effect.the-variants.{Keep, Clear, Enter}
 
 -- a frame, and a state with another frame
 abbrev pub frame : ℕ → ℕ → ℕ → ℕ → ℕ → ℕ → ℕ → Frame
@@ -156,18 +155,3 @@ decide s b =
     (cond (eqb (s .frame .place) 0) (gapDecided (pushedState s b) (dueByte (seenOf (s .seen) (s .frame .count))) b)
     (cond (eqb (s .frame .place) 1) (pictureDecided (pushedState s b) b)
     (cond (eqb (s .frame .place) 2) (kindDecided (pushedState s b) b) (textDecided (pushedState s b) b))))
-
--- the grid with an effect
-unfoldable pub applied : List ℕ → Effect → ℕ → List ℕ
-applied g Keep b = g
-applied g Clear b = Rattle.texts.specs.Part.zeros (Rattle.texts.specs.Part.gridLength)
-applied g (Enter i) b = set g i b
-
--- 01's numbers
-unfoldable pub numberOf : Answer → ℕ
-numberOf Quiet = 0
-numberOf Begun = 1
-numberOf Taken = 2
-numberOf Complete = 3
-numberOf (Dropped n) = n
-numberOf (Refused n) = n

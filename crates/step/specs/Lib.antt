@@ -1,3 +1,3 @@
--- What the receiver's code means in terms of 01's receiver, which `stream` defines. Assumes nothing.
-pub mod Meaning
+-- What the code decides about a byte, in its own terms. Assumes nothing.
+pub mod Time
 pub mod Decide

@@ -1,17 +1,17 @@
 // Block bytes from byte 3 on: their rules, and where they enter.
-use headers::calendar::is_time;
-use headers::radars::is_mode_byte;
-use headers::radars::radar_follows;
-use texts::codes::is_radar_code;
+use calendar::time::is_time;
+use codes::table::is_radar_code;
+use modes::status::clock_of;
+use modes::status::mode_of;
+use modes::status::no_echo_of;
+use radars::places::is_mode_byte;
+use radars::places::radar_follows;
 use texts::header::Header;
-use texts::modes::clock_of;
-use texts::modes::mode_of;
-use texts::modes::no_echo_of;
 ghost use mathlib.Core.Path.{_≡_};
 ghost use mathlib.Core.Bool.{true, false};
 ghost use Prim.Native.Nat.{_≤_, _<_};
 ghost use Rattle.stream.specs.Contents.{timeTakes, withDigit, startTakes, enterHeader, endTakes, enterModes};
-ghost use Rattle.step.specs.Meaning.{isStop, digitIndex};
+ghost use Rattle.step.specs.Time.{isStop, digitIndex};
 
 // Whether a stop stands at this place of `YYYY.MM.DD.hh.mm`. Notice 49, 4(1)(1-1)(d)(イ)
 fn is_stop(i: u16) -> bool

@@ -3,26 +3,25 @@ use crate::contents::end_takes;
 use crate::contents::enter_header;
 use crate::contents::enter_modes;
 use crate::contents::start_takes;
-use crate::state::Answer;
-use crate::state::Decided;
-use crate::state::Effect;
-use crate::state::Frame;
-use crate::state::State;
+use codes::table::is_picture_code;
+use kinds::table::is_end_kind;
+use kinds::table::is_kind;
+use kinds::table::is_start_kind;
+use kinds::table::kind_of;
+use kinds::table::part_of_kind;
+use kinds::table::text_of_kind;
 use last_bytes::seen::counted;
 use last_bytes::seen::due_byte;
 use last_bytes::seen::ends_opening;
 use last_bytes::seen::pushed;
-use texts::codes::is_picture_code;
+use lengths::block::block_length;
+use lengths::part::data_texts;
+use modes::status::highest_mode;
+use states::answer::Answer;
+use states::grid::Effect;
+use states::state::Frame;
+use states::state::State;
 use texts::header::Header;
-use texts::kinds::block_length;
-use texts::kinds::data_texts;
-use texts::kinds::is_end_kind;
-use texts::kinds::is_kind;
-use texts::kinds::is_start_kind;
-use texts::kinds::kind_of;
-use texts::kinds::part_of_kind;
-use texts::kinds::text_of_kind;
-use texts::modes::highest_mode;
 use texts::payload::is_payload_byte;
 ghost use mathlib.Core.Path.{_≡_};
 ghost use mathlib.Core.Bool.{true, false};
@@ -31,6 +30,13 @@ ghost use Rattle.texts.specs.Kinds.{isStartKind, isEndKind, textNumber, blockLe
 ghost use Rattle.stream.specs.Contents.{takesByte};
 ghost use Rattle.stream.specs.Receiver.{firstDue, nextDue, endsWell};
 ghost use Rattle.step.specs.Decide.{withinText, betweenTexts, droppedState, drops, quietly, openedText, gapDecided, pictureDecided, startingText, kindDecided, advanced, withHeader, withModes, enteredByte, blockDecided, eorDecided, checkDecided, lastDecided, textDecided, pushedState, decide};
+
+// What a byte does: the next state, its answer, and its effect on the grid.
+pub struct Decided {
+    pub next: State,
+    pub answer: Answer,
+    pub effect: Effect,
+}
 
 // A state within a text: place, kind, picture code, check byte
 fn within_text(s: State, place: u16, kind: u8, picture: u8, check: u8) -> State

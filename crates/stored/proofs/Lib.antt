@@ -1,4 +1,2 @@
 -- The laws and the proofs of the functions. Assumes nothing.
-pub mod Hearing
-pub mod Wholly
 pub mod Payloads

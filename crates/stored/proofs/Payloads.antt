@@ -20,7 +20,7 @@ use Rattle.text_laws.proofs.KindTable.{data-least}
 use Rattle.text_laws.proofs.Parts.{start-at, part-length-settled}
 use Rattle.text_laws.proofs.Deciding.{part-decided}
 use Rattle.stored.specs.Stored.{hasText, textPayload}
-use Rattle.stored.proofs.Wholly.{numbered, part-long}
+use Rattle.undamaged.proofs.Wholly.{numbered, part-long}
 
 -- ---- cut blocks
 

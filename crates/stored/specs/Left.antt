@@ -1,7 +1,7 @@
 -- Bytes left in the text under way, within 01's bounds. Assumes nothing.
 use mathlib.Core.Path.{_≡_}
 use Prim.Native.Nat.{ℕ, _+_, _-_, _≤_}
-use mathlib.Core.Bool.{Bool, true, false}
+use mathlib.Core.Bool.{true, false}
 use lib.Dec.{eqb}
 use Rattle.texts.specs.Kinds.{blockLength}
 use Rattle.stream.specs.State.{State, isPossible}

@@ -1,8 +1,8 @@
 // Bytes left in the text under way.
-use step::possible::is_possible;
-use step::state::State;
-use texts::kinds::block_length;
-ghost use Rattle.step.specs.Meaning.{stateOf};
+use lengths::block::block_length;
+use states::possible::is_possible;
+use states::state::State;
+ghost use Rattle.states.specs.Meaning.{stateOf};
 ghost use Rattle.stored.specs.Left.{IsLeft};
 
 // How many bytes are left, or a refusal: 2 for an impossible state

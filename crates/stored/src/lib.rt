@@ -1,5 +1,4 @@
 // Layer 3, services on stored parts and on a receiver's state.
 
-mod whole; // whether bytes are exactly one undamaged part
 pub mod text; // the payload of a data text of a stored part
 pub mod left; // bytes left in the text under way

@@ -1,9 +1,9 @@
 // The payload of a data text of a stored part.
-use crate::whole::is_undamaged_part;
-use texts::kinds::data_block_length;
-use texts::kinds::data_texts;
-use texts::kinds::part_of_kind;
-use texts::modes::no_echo_of;
+use kinds::table::part_of_kind;
+use lengths::block::data_block_length;
+use lengths::part::data_texts;
+use modes::status::no_echo_of;
+use undamaged::whole::is_undamaged_part;
 ghost use mathlib.Core.Path.{_≡_};
 ghost use Rattle.stored.specs.Stored.{textPayload};
 

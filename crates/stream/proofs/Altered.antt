@@ -6,24 +6,24 @@
 -- TPAD is no picture code then. Dropped, the rest of the part holds no start text. Assumes nothing.
 use mathlib.Core.Path.{_≡_, refl, sym, ap, ap₂, _∙_, subst}
 use mathlib.Core.Logic.{_⊎_, inl, inr, _≢_}
-use mathlib.Core.Bool.{Bool, true, false, cond, not}
+use mathlib.Core.Bool.{true, false, not}
 use mathlib.Core.List.{List, [], _∷_, _++_, append-assoc, head-eq-of-cons-eq, tail-eq-of-cons-eq}
-use Prim.Native.Nat.{ℕ, zero, suc, _+_, _≤_, _<_}
+use Prim.Native.Nat.{ℕ, suc, _+_, _≤_, _<_}
 use native.Mathlib.Nat.{add-zero}
 use native.Mathlib.Omega.{arith}
 use lib.Dec.{T, T-not, eqb, ltb}
 use lib.ListN.{length, take}
-use borrow.Author.Tests.{ltb-true, ltb-false, eqb-true, eqb-false, not-false, eq-eqb, ne-eqb}
+use borrow.Author.Tests.{ltb-true, ltb-false, eqb-true, not-false, eq-eqb, ne-eqb}
 use Rattle.texts.specs.Bytes.{same}
 use Rattle.texts.specs.Text.{LPAD, SYN, DLE, STX, FD, EOR, TPAD, controlA, opening, xorAll, checkByte}
 use Rattle.texts.specs.Part.{AlteredTo, here, there}
-use Rattle.text_laws.proofs.Rules.{by-test, never}
+use Rattle.text_laws.proofs.Rules.{by-test, never, by-if}
 use Rattle.text_laws.proofs.Framing.{altered-length, altered-parts, altered-xor}
 use Rattle.stream.specs.Seen.{push, endsOpening, dueByte}
 use Rattle.stream.specs.Receiver.{_⊕_}
 use Rattle.stream.proofs.Machine.{Rules, Machine, Out, mk, say, lost, new, opens, inGap, atPicture, begins, atKind, inBlock, atEor, atCheck, atLast, placed, move, run, Eats, done, bite, block, most, text, Open, begun, more, Whole, whole}
-use Rattle.stream.proofs.Opening.{by-if, only-FD, only-STX, differs, opening-seen, control-opens, pushes, seenControl, seenOpening, seenKind}
-use Rattle.stream.proofs.Steps.{Laws, Free, free0, free1, xor-cons, xor-nil, cancel-left, cancel-right, run-append, move-seen, move-block, move-eor, move-check, move-last}
+use Rattle.stream.proofs.Opening.{only-FD, only-STX, differs, opening-seen, control-opens, pushes, seenControl, seenOpening, seenKind}
+use Rattle.stream.proofs.Steps.{Laws, Free, free0, free1, xor-cons, xor-nil, cancel-left, cancel-right, move-seen, move-block, move-eor, move-check, move-last}
 use Rattle.stream.proofs.WayBack.{checkAt3, checked, picture-not-FD, kind-not-FD, take-byte, take-eor, take-check, seenCheck, take-picture, take-start, take-last}
 use Rattle.stream.proofs.Completing.{due-control, open-some, gap-1, gap-2, gap-3, gap-4, gap-5, take-opening, take-due}
 
@@ -173,35 +173,44 @@ module _ (R : Rules) (L : Laws R) where
 
   -- ---- a byte other than TPAD completes nothing and begins no part
 
-  pub plain : (m : Machine R) (b : ℕ) → b ≢ TPAD → (move R m b .answer ≢ 3) × (m .part ≡ 0 → move R m b .machine .part ≡ 0)
-  unfolding move opens placed inGap atPicture atKind inBlock atEor atCheck atLast
-  plain m b nf =
-      by-if Q (endsOpening (m .seen) b) (λ _. by-if Q (eqb (m .place) 0) (λ _. kept 0 tt) (λ _. none 11 tt))
+  -- what is shown of an answer: a record, so that the machine's tests are met one by one
+  record Plain (m : Machine R) (o : Out R) : Type 0 where
+    unended : o .answer ≢ 3
+    unbegun : m .part ≡ 0 → o .machine .part ≡ 0
+
+  kept : {m : Machine R} {o : Out R} → T (not (eqb (o .answer) 3)) → o .machine .part ≡ m .part → Plain m o
+  kept {o} t e = record { unended = other (o .answer) t; unbegun = λ z. e ∙ z }
+
+  none : {m : Machine R} {o : Out R} → T (not (eqb (o .answer) 3)) → o .machine .part ≡ 0 → Plain m o
+  none {o} t e = record { unended = other (o .answer) t; unbegun = λ _. e }
+
+  plain-kind : (m : Machine R) (b : ℕ) → Plain m (atKind R m (push (m .seen) b) b)
+  unfolding atKind
+  plain-kind m b =
+      by-if (Plain m) (not (isKind b)) (λ _. none tt refl)
+      (λ _. by-if (Plain m) (isStart b) (λ _. by-if (Plain m) (eqb (m .part) 0) (λ _. none tt refl) (λ _. none tt refl))
+      (λ _. by-if (Plain m) (eqb (m .part) 0) (λ _. none tt refl)
+      (λ _. by-if (Plain m) (not (eqb b (dueKind (m .part) (m .due)))) (λ _. none tt refl)
+      (λ _. by-if (Plain m) (eqb (m .picture) (pictureOf (m .held))) (λ _. kept tt refl) (λ _. none tt refl)))))
+
+  plain-move : (m : Machine R) (b : ℕ) → b ≢ TPAD → Plain m (move R m b)
+  unfolding move opens placed inGap atPicture inBlock atEor atCheck atLast
+  plain-move m b nf =
+      by-if Q (endsOpening (m .seen) b) (λ _. by-if Q (eqb (m .place) 0) (λ _. kept tt refl) (λ _. none tt refl))
       (λ _. by-if Q (eqb (m .place) 0)
-      (λ _. by-if Q (eqb (m .part) 0) (λ _. none 0 tt) (λ _. by-if Q (eqb b (dueByte (m .seen))) (λ _. kept 0 tt) (λ _. none 12 tt)))
-      (λ _. by-if Q (eqb (m .place) 1) (λ _. by-if Q (isPicture b) (λ _. kept 0 tt) (λ _. none 13 tt))
-      (λ _. by-if Q (eqb (m .place) 2) (λ _. kinds)
-      (λ _. by-if Q (ltb (m .place) (long (m .kind))) (λ _. by-if Q (takes (m .kind) (m .held) (m .place) b) (λ _. kept 0 tt) (λ _. none 18 tt))
-      (λ _. by-if Q (eqb (m .place) (long (m .kind))) (λ _. by-if Q (eqb b EOR) (λ _. kept 0 tt) (λ _. none 19 tt))
-      (λ _. by-if Q (eqb (m .place) (suc (long (m .kind)))) (λ _. by-if Q (eqb b (m .check)) (λ _. kept 0 tt) (λ _. none 20 tt))
-      (λ _. by-if Q (not (eqb b TPAD)) (λ _. none 21 tt) (λ e. absurd (nf (eqb-true b TPAD (not-false _ e)))))))))))
+      (λ _. by-if Q (eqb (m .part) 0) (λ _. none tt refl) (λ _. by-if Q (eqb b (dueByte (m .seen))) (λ _. kept tt refl) (λ _. none tt refl)))
+      (λ _. by-if Q (eqb (m .place) 1) (λ _. by-if Q (isPicture b) (λ _. kept tt refl) (λ _. none tt refl))
+      (λ _. by-if Q (eqb (m .place) 2) (λ _. plain-kind m b)
+      (λ _. by-if Q (ltb (m .place) (long (m .kind))) (λ _. by-if Q (takes (m .kind) (m .held) (m .place) b) (λ _. kept tt refl) (λ _. none tt refl))
+      (λ _. by-if Q (eqb (m .place) (long (m .kind))) (λ _. by-if Q (eqb b EOR) (λ _. kept tt refl) (λ _. none tt refl))
+      (λ _. by-if Q (eqb (m .place) (suc (long (m .kind)))) (λ _. by-if Q (eqb b (m .check)) (λ _. kept tt refl) (λ _. none tt refl))
+      (λ _. by-if Q (not (eqb b TPAD)) (λ _. none tt refl) (λ e. absurd (nf (eqb-true b TPAD (not-false _ e)))))))))))
     where
       Q : Out R → Type 0
-      Q o = (o .answer ≢ 3) × (m .part ≡ 0 → o .machine .part ≡ 0)
+      Q o = Plain m o
 
-      kept : (a : ℕ) → T (not (eqb a 3)) → (a ≢ 3) × (m .part ≡ 0 → m .part ≡ 0)
-      kept a t = (other a t, λ z. z)
-
-      none : (a : ℕ) → T (not (eqb a 3)) → (a ≢ 3) × (m .part ≡ 0 → _≡_ {A = ℕ} 0 0)
-      none a t = (other a t, λ _. refl)
-
-      kinds : Q (atKind R m (push (m .seen) b) b)
-      kinds =
-          by-if Q (not (isKind b)) (λ _. none 14 tt)
-          (λ _. by-if Q (isStart b) (λ _. by-if Q (eqb (m .part) 0) (λ _. none 0 tt) (λ _. none 15 tt))
-          (λ _. by-if Q (eqb (m .part) 0) (λ _. none 16 tt)
-          (λ _. by-if Q (not (eqb b (dueKind (m .part) (m .due)))) (λ _. none 16 tt)
-          (λ _. by-if Q (eqb (m .picture) (pictureOf (m .held))) (λ _. kept 0 tt) (λ _. none 17 tt)))))
+  pub plain : (m : Machine R) (b : ℕ) → b ≢ TPAD → (move R m b .answer ≢ 3) × (m .part ≡ 0 → move R m b .machine .part ≡ 0)
+  plain m b nf = let p = plain-move m b nf in (p .unended, p .unbegun)
 
   plain-calm : {xs : List ℕ} → Free TPAD xs → (m : Machine R) → m .part ≡ 0 → (t : Machine R) × Calm m xs t × (t .part ≡ 0) × (t .seen ≡ pushes (m .seen) xs)
   plain-calm free0 m h = (m, stop, h, refl)

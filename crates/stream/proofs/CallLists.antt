@@ -2,20 +2,19 @@
 -- Assumes nothing.
 use mathlib.Core.Path.{_≡_, refl, sym, ap, ap₂, _∙_, subst}
 use mathlib.Core.Logic.{_≢_}
-use mathlib.Core.Bool.{Bool, true, false, cond, not}
+use mathlib.Core.Bool.{not}
 use mathlib.Core.List.{List, [], _∷_, _++_, append-assoc, append-nil, map}
-use Prim.Native.Nat.{ℕ, zero, suc, _+_, _≤_, _<_}
+use Prim.Native.Nat.{ℕ, zero, suc, _+_}
 use native.Mathlib.Omega.{arith}
 use lib.Dec.{eqb}
 use lib.ListN.{length, take}
 use borrow.Author.Tests.{eqb-true, eqb-false, eq-eqb, ne-eqb}
 use Rattle.texts.specs.Part.{gridLength}
-use Rattle.text_laws.proofs.Rules.{by-test}
-use Rattle.stream.specs.State.{State, fresh, emptyGrid, isPossible}
-use Rattle.stream.specs.Receiver.{Step, step}
-use Rattle.stream.specs.Calls.{Reply, answered, refused, Received, refuses, judged, byteCall, feed, sliceCall, Request, byte, slice, Call, onGrid, elsewhere, ask, bytesOf, number, spread, After, start, add, next, after, received, singly, answersOf, stateAfter, gridAfter}
+use Rattle.text_laws.proofs.Rules.{by-if}
+use Rattle.stream.specs.State.{State, fresh, emptyGrid}
+use Rattle.stream.specs.Receiver.{step}
+use Rattle.stream.specs.Calls.{answered, refused, Received, refuses, judged, byteCall, feed, sliceCall, Request, byte, slice, Call, onGrid, elsewhere, ask, number, spread, After, start, add, next, after, received, singly, answersOf, stateAfter, gridAfter}
 use Rattle.stream.specs.Demand3.{SliceTaken}
-use Rattle.stream.proofs.Opening.{by-if}
 use Rattle.stream.proofs.Possible.{Possible, possible-keeps, step-kept, fresh-possible, grid-long}
 
 -- ---- single calls

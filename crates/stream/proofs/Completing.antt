@@ -1,19 +1,18 @@
 -- A whole part, given to a machine in any state, is answered complete at its last byte. Assumes nothing.
-use mathlib.Core.Path.{_≡_, refl, sym, ap, ap₂, _∙_}
+use mathlib.Core.Path.{_≡_, refl, sym, ap, _∙_}
 use mathlib.Core.Logic.{_≢_}
-use mathlib.Core.Bool.{Bool, true, false, cond, not}
+use mathlib.Core.Bool.{true, false}
 use mathlib.Core.List.{List, [], _∷_, _++_}
-use Prim.Native.Nat.{ℕ, zero, suc, _+_}
+use Prim.Native.Nat.{ℕ, suc, _+_}
 use native.Mathlib.Omega.{arith}
-use lib.Dec.{eqb}
 use lib.ListN.{length, take}
 use borrow.Author.Tests.{eq-eqb, ne-eqb}
-use Rattle.texts.specs.Bytes.{_!_, same}
+use Rattle.texts.specs.Bytes.{same}
 use Rattle.texts.specs.Text.{LPAD, SYN, DLE, STX, FD, EOR, TPAD, controlA, checkByte}
 use Rattle.stream.specs.Seen.{push, endsOpening, dueByte}
 use Rattle.stream.specs.Receiver.{_⊕_}
-use Rattle.stream.proofs.Machine.{Rules, Machine, Out, mk, say, new, opens, inGap, atKind, atLast, placed, move, run, Quietly, still, hush, Eats, done, bite, block, most, text, Open, begun, more}
-use Rattle.stream.proofs.Opening.{only-FD, pushes, seenControl, seenOpening, seenKind}
+use Rattle.stream.proofs.Machine.{Rules, Machine, mk, say, opens, inGap, atKind, atLast, placed, move, run, Quietly, hush, Eats, block, most, text, Open, begun, more}
+use Rattle.stream.proofs.Opening.{only-FD, seenControl, seenOpening, seenKind}
 use Rattle.stream.proofs.Steps.{Laws, run-append, quiet-run}
 use Rattle.stream.proofs.WayBack.{checkAt3, kind-not-FD, block-quiet, take-picture, take-last, seenCheck, start-run}
 

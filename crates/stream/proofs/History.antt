@@ -5,21 +5,21 @@
 -- block; the whole block and the EOR; these and the check byte. Every move keeps this. Assumes nothing.
 use mathlib.Core.Path.{_≡_, refl, sym, ap, ap₂, _∙_, subst}
 use mathlib.Core.Logic.{_≢_}
-use mathlib.Core.Bool.{Bool, true, false, cond, not}
+use mathlib.Core.Bool.{true, false, cond, not}
 use mathlib.Core.List.{List, [], _∷_, _++_, append-assoc, append-nil, reverse, head-eq-of-cons-eq, tail-eq-of-cons-eq, nil≢cons, reverse-cons, reverse-append}
-use Prim.Native.Nat.{ℕ, zero, suc, _+_, _≤_, _<_}
+use Prim.Native.Nat.{ℕ, suc, _+_, _≤_, _<_}
 use native.Mathlib.Nat.{add-zero}
 use native.Mathlib.Omega.{arith}
 use lib.Dec.{eqb, ltb}
 use lib.ListN.{length, take, drop, length-append, take-append-drop}
-use borrow.Author.Tests.{ltb-true, ltb-false, eqb-true, eqb-false, not-false, eq-eqb, ne-eqb, lt-ltb, le-ltb}
-use Rattle.texts.specs.Bytes.{_!_, same}
-use Rattle.texts.specs.Text.{LPAD, SYN, DLE, STX, FD, EOR, TPAD, controlA, opening, xorAll, checkByte}
-use Rattle.text_laws.proofs.Rules.{by-test, never}
+use borrow.Author.Tests.{ltb-true, ltb-false, eqb-true, eqb-false, not-false}
+use Rattle.texts.specs.Bytes.{same}
+use Rattle.texts.specs.Text.{LPAD, SYN, DLE, FD, EOR, TPAD, controlA, opening, xorAll, checkByte}
+use Rattle.text_laws.proofs.Rules.{by-test, never, by-if}
 use Rattle.stream.specs.Seen.{push, openingBack, endsOpening, dueByte}
 use Rattle.stream.specs.Receiver.{_⊕_}
 use Rattle.stream.proofs.Machine.{Rules, Machine, Out, mk, say, lost, new, opens, inGap, atPicture, begins, atKind, inBlock, atEor, atCheck, atLast, placed, move, run, Eats, done, bite, block, most, text, Open, begun, more, Whole, whole}
-use Rattle.stream.proofs.Opening.{by-if, opening-seen, control-opens, seenControl}
+use Rattle.stream.proofs.Opening.{opening-seen, control-opens, seenControl}
 use Rattle.stream.proofs.Steps.{Laws, xor-snoc, xor-nil, check-is, run-append, move-seen, move-block, move-eor, move-check, move-last}
 use Rattle.stream.proofs.WayBack.{running}
 use Rattle.stream.proofs.Completing.{due-control, open-some, whole-run}

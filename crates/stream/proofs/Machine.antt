@@ -1,10 +1,9 @@
 -- A receiver of framed texts, over any rules for what blocks hold. The theory of framing (opening, place, check byte,
 -- part, due text, the way back) speaks of this machine; 01's receiver is one, as Instance proves. Assumes nothing.
-use mathlib.Core.Path.{_≡_, refl}
-use mathlib.Core.Logic.{_⊎_, _≢_}
+use mathlib.Core.Path.{_≡_}
 use mathlib.Core.Bool.{Bool, true, false, cond, not}
 use mathlib.Core.List.{List, [], _∷_, _++_}
-use Prim.Native.Nat.{ℕ, suc, _+_, _≤_}
+use Prim.Native.Nat.{ℕ, suc, _+_}
 use lib.Dec.{eqb, ltb}
 use lib.ListN.{length}
 use Rattle.texts.specs.Text.{FD, EOR, TPAD, controlA, checkByte}

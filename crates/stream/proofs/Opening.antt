@@ -1,21 +1,15 @@
 -- When an opening ends, and which byte of it is due. Assumes nothing.
-use mathlib.Core.Path.{_≡_, refl, sym, ap, _∙_}
+use mathlib.Core.Path.{_≡_, refl, ap}
 use mathlib.Core.Logic.{_≢_}
-use mathlib.Core.Bool.{Bool, true, false, cond, _&&_, and-false}
-use mathlib.Core.List.{List, [], _∷_, _++_, reverse, tail-eq-of-cons-eq}
-use Prim.Native.Nat.{ℕ, suc}
+use mathlib.Core.Bool.{true, false, and-false}
+use mathlib.Core.List.{List, [], _∷_, tail-eq-of-cons-eq}
+use Prim.Native.Nat.{ℕ}
 use lib.Dec.{eqb}
-use lib.ListN.{take}
 use borrow.Author.Tests.{ne-eqb}
 use Rattle.texts.specs.Bytes.{_!_, same}
 use Rattle.texts.specs.Text.{LPAD, SYN, DLE, STX, FD, opening}
 use Rattle.text_laws.proofs.Rules.{by-test, same-eq}
-use Rattle.stream.specs.Seen.{push, openingBack, endsOpening, dueByte}
-
--- a choice by a test: each outcome by itself
-pub by-if : {A : Type 0} (P : A → Type 0) (c : Bool) {x y : A} → (c ≡ true → P x) → (c ≡ false → P y) → P (cond c x y)
-by-if P true f g = f refl
-by-if P false f g = g refl
+use Rattle.stream.specs.Seen.{push, openingBack, endsOpening}
 
 -- an opening ends with `FD`, and the byte before it is STX
 pub only-FD : (w : List ℕ) (b : ℕ) → b ≢ FD → endsOpening w b ≡ false

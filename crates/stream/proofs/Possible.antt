@@ -1,26 +1,25 @@
 -- From a possible state and a grid of 20,000 bytes every step leads to such again: no call of a list is refused with 2. Assumes nothing.
-use mathlib.Core.Path.{_≡_, refl, sym, ap, ap₂, _∙_, subst}
-use mathlib.Core.Logic.{_⊎_, inl, inr, _≢_}
-use mathlib.Core.Bool.{Bool, true, false, cond, not, _&&_, _||_}
-use mathlib.Core.List.{List, [], _∷_, _++_}
-use Prim.Native.Nat.{ℕ, zero, suc, _+_, _≤_, _<_}
+use mathlib.Core.Path.{_≡_, refl, sym, ap, _∙_, subst}
+use mathlib.Core.Logic.{_≢_}
+use mathlib.Core.Bool.{true, false, cond, not, _||_}
+use mathlib.Core.List.{List}
+use Prim.Native.Nat.{ℕ, suc, _+_, _≤_, _<_}
 use native.Mathlib.Omega.{arith}
-use lib.Dec.{T, eqb, ltb, leb, lit≤}
-use lib.ListN.{length, take, set, length-set, length-take, length-replicate}
-use borrow.Author.Tests.{eqb-true, eqb-false, ltb-true, ltb-false, leb-true, le-leb, eq-eqb, ne-eqb, not-true, not-false}
+use lib.Dec.{eqb, ltb, leb, lit≤}
+use lib.ListN.{length, length-set, length-take, length-replicate}
+use borrow.Author.Tests.{eqb-true, eqb-false, ltb-true, leb-true, le-leb, eq-eqb, ne-eqb, not-false}
 use Rattle.texts.specs.Bytes.{allOf}
-use Rattle.texts.specs.Text.{FD, EOR, TPAD}
+use Rattle.texts.specs.Text.{EOR, TPAD}
 use Rattle.texts.specs.Pictures.{isPictureCode}
 use Rattle.texts.specs.Kinds.{kinds, isPartNumber, isKind, isStartKind, isEndKind, partOf, textNumber, kindOf, blockLength, dataTexts}
 use Rattle.texts.specs.Part.{gridLength, zeros}
 use Rattle.texts.specs.declared.header.Header.{Header}
-use Rattle.text_laws.proofs.Rules.{by-test, never, and-split, and-join, rule-at, tabled}
-use Rattle.text_laws.proofs.KindTable.{kind-part, text-back, start-is-kind, no-kind-0}
+use Rattle.text_laws.proofs.Rules.{by-test, never, and-split, and-join, rule-at, tabled, by-if}
+use Rattle.text_laws.proofs.KindTable.{kind-part, text-back, no-kind-0}
 use Rattle.stream.specs.Seen.{push, endsOpening, dueByte}
-use Rattle.stream.specs.State.{State, dropped, fresh, emptyGrid, isDue, fitsPart, kindUnread, kindRead, isPossible}
+use Rattle.stream.specs.State.{State, fresh, emptyGrid, isDue, fitsPart, kindUnread, kindRead, isPossible}
 use Rattle.stream.specs.Contents.{takesByte, enterGrid}
-use Rattle.stream.specs.Receiver.{Step, answers, drops, opened, gapByte, pictureByte, kindByte, blockByte, eorByte, checkedByte, firstDue, nextDue, endsWell, lastByte, placedByte, step}
-use Rattle.stream.proofs.Opening.{by-if}
+use Rattle.stream.specs.Receiver.{Step, drops, opened, gapByte, pictureByte, kindByte, blockByte, eorByte, checkedByte, firstDue, nextDue, endsWell, lastByte, placedByte, step}
 use Rattle.stream.proofs.Instance.{kind-long}
 use Rattle.stream.proofs.WholeParts.{first-due}
 

@@ -1,7 +1,7 @@
 -- Rows 11 and 15 of 01's table hold both ways: a byte is answered so exactly when the row's condition holds. Assumes nothing.
 use mathlib.Core.Path.{_≡_, refl, subst}
 use mathlib.Core.Logic.{_≢_, _↔_}
-use mathlib.Core.Bool.{Bool, true, false, cond, not, _||_}
+use mathlib.Core.Bool.{Bool, true, false, not, _||_}
 use mathlib.Core.List.{List, [], _∷_}
 use Prim.Native.Nat.{ℕ, suc}
 use native.Mathlib.Omega.{arith}
@@ -11,13 +11,12 @@ use Rattle.texts.specs.Bytes.{isIn}
 use Rattle.texts.specs.Text.{EOR, TPAD}
 use Rattle.texts.specs.Pictures.{isPictureCode}
 use Rattle.texts.specs.Kinds.{isKind, isStartKind, isEndKind, kindOf, blockLength}
-use Rattle.text_laws.proofs.Rules.{never}
+use Rattle.text_laws.proofs.Rules.{never, by-if}
 use Rattle.text_laws.proofs.KindTable.{start-is-kind}
 use Rattle.stream.specs.Seen.{push, endsOpening, dueByte}
 use Rattle.stream.specs.State.{State}
 use Rattle.stream.specs.Contents.{takesByte}
 use Rattle.stream.specs.Receiver.{Step, opened, gapByte, pictureByte, kindByte, blockByte, eorByte, checkedByte, endsWell, lastByte, placedByte, step}
-use Rattle.stream.proofs.Opening.{by-if}
 
 -- every answer but 11 and 15
 abbrev others : List ℕ

@@ -1,22 +1,19 @@
 -- The machine's laws, and single moves of it. Assumes nothing.
-use mathlib.Core.Path.{_≡_, refl, sym, ap, ap₂, _∙_, subst}
-use mathlib.Core.Logic.{_⊎_, inl, inr, _≢_}
-use mathlib.Core.Bool.{Bool, true, false, cond, not, true≢false}
-use mathlib.Core.List.{List, [], _∷_, _++_, append-assoc}
-use Prim.Native.Nat.{ℕ, zero, suc, _+_, _≤_, _<_}
-use native.Mathlib.Nat.{add-zero}
+use mathlib.Core.Path.{_≡_, refl, ap, _∙_}
+use mathlib.Core.Logic.{_⊎_, _≢_}
+use mathlib.Core.Bool.{true, false, not}
+use mathlib.Core.List.{List, [], _∷_, _++_}
+use Prim.Native.Nat.{ℕ, suc, _+_, _≤_, _<_}
 use native.Mathlib.Omega.{arith}
-use lib.Bits.{bitXor, xor-zero-l, xor-zero-r}
+use lib.Bits.{bitXor, xor-zero-r}
 use lib.Dec.{eqb, ltb}
-use lib.ListN.{length, take}
-use borrow.Author.Tests.{lt-ltb, le-ltb, eq-eqb, ne-eqb, eqb-true}
-use Rattle.texts.specs.Bytes.{same}
-use Rattle.texts.specs.Text.{LPAD, SYN, DLE, STX, FD, EOR, TPAD, controlA, xorAll, checkByte}
+use borrow.Author.Tests.{lt-ltb, le-ltb, eq-eqb, ne-eqb}
+use Rattle.texts.specs.Text.{SYN, STX, FD, EOR, TPAD, xorAll, checkByte}
 use Rattle.texts.proofs.Xor.{xor-assoc, xor-cancel-left, xor-cancel-right, xorAll-append}
 use Rattle.stream.specs.Seen.{push, endsOpening, dueByte}
 use Rattle.stream.specs.Receiver.{_⊕_}
-use Rattle.stream.proofs.Machine.{Rules, Machine, Out, mk, say, lost, new, opens, inGap, atPicture, begins, atKind, inBlock, atEor, atCheck, atLast, placed, move, run, Quietly, still, hush, Eats, done, bite, block, most, text}
-use Rattle.stream.proofs.Opening.{by-if, only-FD, only-STX}
+use Rattle.stream.proofs.Machine.{Rules, Machine, Out, mk, opens, inGap, atPicture, atKind, inBlock, atEor, atCheck, atLast, placed, move, run, Quietly, still, hush, Eats, block, text}
+use Rattle.text_laws.proofs.Rules.{by-if}
 
 -- the running check byte
 pub xor-snoc : (bytes : List ℕ) (b : ℕ) → xorAll (bytes ++ (b ∷ [])) ≡ xorAll bytes ⊕ b

@@ -1,21 +1,20 @@
 -- Demand 3, for every list of receiving calls. Assumes nothing.
 use mathlib.Core.Path.{_≡_, refl, sym, ap, ap₂, _∙_, subst}
 use mathlib.Core.Logic.{_≢_, _↔_}
-use mathlib.Core.Bool.{true, false}
-use mathlib.Core.List.{List, [], _∷_, _++_, append-assoc, append-nil, map}
-use Prim.Native.Nat.{ℕ, zero, suc, _+_, _-_, _≤_, _<_}
+use mathlib.Core.Bool.{true}
+use mathlib.Core.List.{List, [], _∷_, _++_, append-assoc, map}
+use Prim.Native.Nat.{ℕ, suc, _+_, _-_}
 use native.Mathlib.Omega.{arith}
 use lib.ListN.{length, take, drop, length-append, length-drop, List·getD-eq-default}
 use lib.Dec.{ltb}
 use lib.Seq.{drop-at, split-at, length-take-le}
 use borrow.Author.Tests.{ltb-true, ltb-false}
 use Rattle.texts.specs.Bytes.{_!_}
-use Rattle.texts.specs.Text.{FD, EOR, TPAD, controlA, checkByte, textOf}
+use Rattle.texts.specs.Text.{FD, TPAD, textOf}
 use Rattle.texts.specs.StartBlock.{isStartBlock, headerOf}
 use Rattle.texts.specs.Part.{StartText, UndamagedPart, AlteredTo, partHeader, partModes, gridOf}
 use Rattle.texts.specs.EndBlock.{noModes}
 use Rattle.text_laws.proofs.Rules.{by-test}
-use Rattle.text_laws.proofs.Framing.{text-length}
 use Rattle.text_laws.proofs.Blocks.{StartRules, start-rules}
 use Rattle.stream.specs.State.{State, fresh, emptyGrid}
 use Rattle.stream.specs.Receiver.{Step, step}
@@ -29,7 +28,7 @@ use Rattle.stream.proofs.Altered.{altered-never}
 use Rattle.stream.proofs.Instance.{Held, held, radar, machine, out, step-is-move, radar-laws, start-long}
 use Rattle.stream.proofs.BlockRules.{start-taken}
 use Rattle.stream.proofs.WholeParts.{text-same, split-3, heldOf, whole-undamaged, undamaged-whole}
-use Rattle.stream.proofs.CallLists.{Sound, wrong-grid, byte-taken, slice-taken, state-append, grid-append, answers-append, Stepped, calls-stepped, calls-sound, singly-taken}
+use Rattle.stream.proofs.CallLists.{wrong-grid, byte-taken, slice-taken, answers-append, Stepped, calls-stepped, calls-sound, singly-taken}
 
 -- ---- steps are moves
 

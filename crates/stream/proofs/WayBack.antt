@@ -1,20 +1,20 @@
 -- A start text leads every machine, from whatever state, to the same state: the way back. Assumes nothing.
 use mathlib.Core.Path.{_≡_, refl, sym, ap, ap₂, _∙_, subst, subst₂}
 use mathlib.Core.Logic.{_≢_}
-use mathlib.Core.Bool.{Bool, true, false, cond, not, true≢false}
-use mathlib.Core.List.{List, [], _∷_, _++_, append-assoc}
-use Prim.Native.Nat.{ℕ, zero, suc, _+_, _≤_, _<_}
+use mathlib.Core.Bool.{true, false}
+use mathlib.Core.List.{List, [], _∷_, _++_}
+use Prim.Native.Nat.{ℕ, suc, _+_, _≤_, _<_}
 use native.Mathlib.Nat.{add-zero}
 use native.Mathlib.Omega.{arith}
 use lib.Dec.{eqb}
 use lib.ListN.{length, take}
-use borrow.Author.Tests.{eq-eqb, ne-eqb, eqb-true, eqb-false}
-use Rattle.texts.specs.Text.{LPAD, SYN, DLE, STX, FD, EOR, TPAD, controlA, xorAll, checkByte}
-use Rattle.text_laws.proofs.Rules.{by-test, never}
+use borrow.Author.Tests.{eq-eqb, eqb-true, eqb-false}
+use Rattle.texts.specs.Text.{STX, FD, EOR, TPAD, controlA, xorAll, checkByte}
+use Rattle.text_laws.proofs.Rules.{by-test, never, by-if}
 use Rattle.stream.specs.Seen.{push, endsOpening}
 use Rattle.stream.specs.Receiver.{_⊕_}
-use Rattle.stream.proofs.Machine.{Rules, Machine, Out, mk, say, lost, new, opens, atPicture, atKind, inBlock, atEor, atCheck, atLast, placed, move, run, Quietly, still, hush, Eats, done, bite, block, most, text}
-use Rattle.stream.proofs.Opening.{by-if, only-FD, only-STX, control-opens, pushes, seenControl, seenOpening, seenKind}
+use Rattle.stream.proofs.Machine.{Rules, Machine, Out, mk, say, opens, atPicture, atKind, inBlock, atEor, atCheck, atLast, placed, move, run, Quietly, still, hush, Eats, done, bite, block, most, text}
+use Rattle.stream.proofs.Opening.{only-FD, only-STX, control-opens, pushes, seenControl, seenOpening, seenKind}
 use Rattle.stream.proofs.Steps.{Laws, xor-cons, xor-nil, check-is, run-append, quiet-run, quiet-append, move-seen, move-block, move-eor, move-check, move-last}
 
 -- the check byte of a block, as it runs on from its first three bytes

@@ -1,32 +1,30 @@
 -- The whole parts of 01's machine are the undamaged parts, and what is held after one is what the part says. Assumes nothing.
 use mathlib.Core.Path.{_≡_, refl, sym, ap, ap₂, _∙_, subst, subst₂}
-use mathlib.Core.Logic.{_⊎_, inl, inr, _≢_}
 use mathlib.Core.Bool.{Bool, true, false, cond, not, _&&_, _||_}
 use mathlib.Core.List.{List, [], _∷_, _++_, append-assoc, append-nil}
 use Prim.Native.Nat.{ℕ, zero, suc, _+_, _*_, _-_, _≤_, _<_}
-use native.Mathlib.Nat.{add-zero, zero-add, mul-le-mul-right, suc-mul, zero-mul}
+use native.Mathlib.Nat.{add-zero, mul-le-mul-right, suc-mul, zero-mul}
 use native.Mathlib.Omega.{arith}
-use lib.Dec.{eqb, ltb, leb, lit≤}
-use lib.ListN.{length, take, drop, set, replicate, length-append, length-drop, length-replicate}
+use lib.Dec.{eqb, ltb, lit≤}
+use lib.ListN.{length, drop, length-append, length-drop, length-replicate}
 use lib.Seq.{sets, sets-eq, take-append-seam, drop-append-add}
-use borrow.Author.Tests.{eqb-true, eqb-false, ltb-true, ltb-false, eq-eqb, ne-eqb, lt-ltb, le-ltb, not-true}
+use borrow.Author.Tests.{eqb-true, eqb-false, ltb-true, ltb-false, eq-eqb, lt-ltb, le-ltb}
 use Rattle.texts.specs.Bytes.{_!_, every}
-use Rattle.texts.specs.Text.{FD, EOR, TPAD, controlA, checkByte, textOf}
+use Rattle.texts.specs.Text.{FD, textOf}
 use Rattle.texts.specs.Pictures.{isPictureCode}
 use Rattle.texts.specs.Kinds.{isKind, isStartKind, isEndKind, isDataKind, partOf, textNumber, kindOf, blockLength, dataBlockLength, dataTexts}
 use Rattle.texts.specs.StartBlock.{noEchoOf, modeOf, radarsOf, isStartBlock, headerOf}
 use Rattle.texts.specs.DataBlock.{isPayloadByte, payloadOf, isDataBlock}
 use Rattle.texts.specs.EndBlock.{isEndBlock, modesOf, highest, noModes}
-use Rattle.texts.specs.Part.{Part, textsOf, partBytes, isTextOf, inOrder, startPart, dataTextsAfter, isPart, UndamagedPart, gridLength, payloadsOf, zeros, gridOf, partHeader, partModes}
+use Rattle.texts.specs.Part.{Part, textsOf, partBytes, isTextOf, inOrder, startPart, UndamagedPart, gridLength, payloadsOf, zeros, gridOf, partHeader, partModes}
 use Rattle.texts.specs.declared.header.Header.{Header}
-use Rattle.text_laws.proofs.Rules.{by-test, never, and-split, and-join}
+use Rattle.text_laws.proofs.Rules.{by-test, never, and-split, and-join, by-if}
 use Rattle.text_laws.proofs.KindTable.{text-back, data-is-kind, end-is-kind, data-block-length, few-texts}
-use Rattle.text_laws.proofs.Blocks.{StartRules, start-rules, DataRules, data-rules, data-keeps, EndRules, end-rules, PartRules, part-rules, part-keeps}
-use Rattle.text_laws.proofs.Parts.{Sized, data-sized, payloads-length, payload-fits, order-split}
+use Rattle.text_laws.proofs.Blocks.{start-rules, DataRules, data-rules, data-keeps, EndRules, end-rules, PartRules, part-rules, part-keeps}
+use Rattle.text_laws.proofs.Parts.{data-sized, payloads-length, payload-fits, order-split}
 use Rattle.stream.specs.State.{emptyGrid}
 use Rattle.stream.specs.Receiver.{firstDue, nextDue, endsWell}
 use Rattle.stream.proofs.Machine.{Eats, block, most, text, Open, begun, more, Whole, whole}
-use Rattle.stream.proofs.Opening.{by-if}
 use Rattle.stream.proofs.Instance.{Held, held, radar, kind-long, start-long, end-long}
 use Rattle.stream.proofs.BlockRules.{start-taken, data-taken, end-taken, data-only, end-not-start}
 

@@ -1,13 +1,13 @@
 -- The two receiving calls, and a list of calls. Assumes nothing.
 use mathlib.Core.Logic.{_≢_}
 use Prim.Native.Nat.{ℕ, zero, suc}
-use mathlib.Core.Bool.{Bool, true, false, cond, not}
+use mathlib.Core.Bool.{cond, not}
 use mathlib.Core.List.{List, [], _∷_, _++_, map}
 use lib.Dec.{eqb}
 use lib.ListN.{length, take}
 use Rattle.texts.specs.Part.{gridLength}
 use Rattle.stream.specs.State.{State, fresh, emptyGrid, isPossible}
-use Rattle.stream.specs.Receiver.{Step, step}
+use Rattle.stream.specs.Receiver.{step}
 
 -- What a call returns: an answer (0 to 3, 11 to 22), or a refusal (1 or 2), which is told apart from answers 1 and 2
 pub data Reply : Type 0 where

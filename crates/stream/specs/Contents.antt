@@ -1,11 +1,11 @@
 -- What a block byte from byte 3 on may be, and where it enters: header, modes or grid. Assumes nothing.
-use Prim.Native.Nat.{ℕ, zero, suc, _+_, _*_, _-_, _/_, _%_}
-use mathlib.Core.Bool.{Bool, true, false, cond, _&&_, _||_, not}
+use Prim.Native.Nat.{ℕ, suc, _+_, _*_, _-_, _/_, _%_}
+use mathlib.Core.Bool.{Bool, true, cond, _&&_, _||_, not}
 use mathlib.Core.List.{List, [], _∷_}
 use lib.Dec.{eqb, leb}
 use lib.ListN.{set}
 use Rattle.texts.specs.Bytes.{_!_, isIn}
-use Rattle.texts.specs.Kinds.{partOf, textNumber, isStartKind, isEndKind}
+use Rattle.texts.specs.Kinds.{partOf, isStartKind, isEndKind}
 use Rattle.texts.specs.StartBlock.{noEchoOf, modeOf, hasMode, isClockByte, clockOf, digitPlaces, stopPlaces, isDigit, isTime, isRadarCode, follows, blankHeader}
 use Rattle.texts.specs.DataBlock.{isPayloadByte}
 use Rattle.texts.specs.EndBlock.{isModeByte}

@@ -1,7 +1,7 @@
 -- What the receiver does with one byte: 01's table, rows 11 to 22, in the order of the checks. Assumes nothing.
-use Prim.Native.Nat.{ℕ, suc, _+_}
-use mathlib.Core.Bool.{Bool, true, false, cond, _&&_, _||_, not}
-use mathlib.Core.List.{List, [], _∷_}
+use Prim.Native.Nat.{ℕ, suc}
+use mathlib.Core.Bool.{Bool, false, cond, _||_, not}
+use mathlib.Core.List.{List}
 use lib.Bits.{bitXor}
 use lib.Dec.{eqb, ltb}
 use Rattle.texts.specs.Text.{FD, EOR, TPAD}

@@ -1,12 +1,12 @@
 -- The receiver's state, and which states are possible. Assumes nothing.
 use Prim.Native.Nat.{ℕ, _+_}
-use mathlib.Core.Bool.{Bool, true, false, cond, _&&_, _||_, not}
+use mathlib.Core.Bool.{Bool, cond, _&&_, not}
 use mathlib.Core.List.{List, [], _∷_}
 use lib.Dec.{eqb, leb}
 use lib.ListN.{length}
 use Rattle.texts.specs.Bytes.{allOf}
 use Rattle.texts.specs.Pictures.{isPictureCode}
-use Rattle.texts.specs.Kinds.{isKind, isStartKind, kindOf, blockLength, isPartNumber}
+use Rattle.texts.specs.Kinds.{isKind, isStartKind, kindOf, blockLength}
 use Rattle.texts.specs.StartBlock.{blankHeader}
 use Rattle.texts.specs.EndBlock.{noModes}
 use Rattle.texts.specs.Part.{zeros, gridLength}

@@ -1,7 +1,7 @@
 -- The rules of blocks and of a part, each as a fact under its own name. Assumes nothing.
-use mathlib.Core.Path.{_≡_, refl, sym, ap, _∙_}
+use mathlib.Core.Path.{_≡_}
 use mathlib.Core.Bool.{true}
-use mathlib.Core.List.{List, [], _∷_}
+use mathlib.Core.List.{List}
 use Prim.Native.Nat.{ℕ, _+_}
 use lib.Dec.{eqb}
 use lib.ListN.{length, drop}
@@ -9,8 +9,8 @@ use borrow.Author.Tests.{eqb-true, eq-eqb}
 use Rattle.texts.specs.Bytes.{_!_, every, allOf}
 use Rattle.texts.specs.Text.{FD}
 use Rattle.texts.specs.Pictures.{isPictureCode}
-use Rattle.texts.specs.Kinds.{partOf, kindOf, isStartKind, isDataKind, isEndKind, blockLength, dataTexts}
-use Rattle.texts.specs.StartBlock.{hasMode, isClockByte, isTimeText, timeTextOf, isRadarList, radarsOf, noEchoOf, modeOf, isStartBlock}
+use Rattle.texts.specs.Kinds.{partOf, kindOf, isStartKind, isDataKind, isEndKind, blockLength}
+use Rattle.texts.specs.StartBlock.{hasMode, isClockByte, isTimeText, timeTextOf, isRadarList, radarsOf, modeOf, isStartBlock}
 use Rattle.texts.specs.DataBlock.{isPayloadByte, payloadOf, isDataBlock}
 use Rattle.texts.specs.EndBlock.{radarPlaces, isModeByte, isEndBlock, modesOf, highest}
 use Rattle.texts.specs.Part.{Part, startPart, dataTextsAfter, inOrder, isPart}

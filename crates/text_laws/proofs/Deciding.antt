@@ -1,19 +1,18 @@
 -- The tests decide: a text or a part passes its test exactly when it is undamaged. Assumes nothing.
-use mathlib.Core.Path.{_≡_, refl, sym, ap, ap₂, _∙_, subst}
-use mathlib.Core.Logic.{_⊎_, inl, inr, _↔_, _≢_, ⊎-elim}
+use mathlib.Core.Path.{_≡_, refl, ap, _∙_, subst}
+use mathlib.Core.Logic.{_⊎_, _↔_, ⊎-elim}
 use mathlib.Core.Bool.{Bool, true, false, cond, not, _&&_, _||_, or-true}
-use mathlib.Core.List.{List, [], _∷_, _++_}
-use Prim.Native.Nat.{ℕ, zero, suc, _+_, _≤_, _<_}
-use native.Mathlib.Omega.{arith}
-use lib.Dec.{eqb, leb, ltb}
-use lib.ListN.{length, take, drop, List·getD-eq-default}
+use mathlib.Core.List.{List, [], _∷_}
+use Prim.Native.Nat.{ℕ, zero, suc, _+_}
+use lib.Dec.{eqb, ltb}
+use lib.ListN.{length, List·getD-eq-default}
 use borrow.Author.Tests.{eqb-true, eqb-false, eq-eqb, ne-eqb, ltb-true, ltb-false, not-true}
 use Rattle.texts.specs.Bytes.{_!_, every, allOf, isIn, same, bit}
 use Rattle.texts.specs.Text.{textOf}
 use Rattle.texts.specs.StartBlock.{modeOf, hasMode, isRadarCode, radarCodes, rising, isRadarList, isStartBlock}
 use Rattle.texts.specs.DataBlock.{isDataBlock}
 use Rattle.texts.specs.EndBlock.{radarPlaces, isModeByte, isEndBlock}
-use Rattle.texts.specs.Part.{Block, startBlock, dataBlock, endBlock, UndamagedText, Part, partBytes, isPart, UndamagedPart, blockIn, radarFor, radarsFor, isBlock, isUndamagedText, cutPart, isUndamagedPart}
+use Rattle.texts.specs.Part.{Block, startBlock, dataBlock, endBlock, UndamagedText, partBytes, isPart, UndamagedPart, blockIn, radarFor, radarsFor, isBlock, isUndamagedText, cutPart, isUndamagedPart}
 use Rattle.text_laws.proofs.Rules.{by-test, never, and-split, and-join, or-split, rule-at, every-at, every-in, same-eq, same-refl}
 use Rattle.text_laws.proofs.Framing.{block-in-text}
 use Rattle.text_laws.proofs.Blocks.{EndRules, end-rules, end-keeps}

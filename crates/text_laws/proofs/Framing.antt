@@ -1,14 +1,12 @@
 -- Texts: their lengths, their bytes by place, and that a text has one block only. Assumes nothing.
 use mathlib.Core.Path.{_≡_, refl, sym, ap, ap₂, _∙_, subst}
 use mathlib.Core.Logic.{_⊎_, inl, inr, _≢_}
-use mathlib.Core.List.{List, [], _∷_, _++_, append-assoc, head-eq-of-cons-eq, tail-eq-of-cons-eq}
-use Prim.Native.Nat.{ℕ, zero, suc, _+_, _-_, _≤_, _<_}
+use mathlib.Core.List.{List, [], _∷_, _++_, head-eq-of-cons-eq, tail-eq-of-cons-eq}
+use Prim.Native.Nat.{ℕ, suc, _+_, _-_}
 use native.Mathlib.Omega.{arith}
-use lib.Bits.{bitXor}
-use lib.ListN.{length, getD, take, drop, length-append, List·getD-append}
-use lib.Seq.{take-at, drop-at, getD-append-add}
-use Rattle.texts.specs.Bytes.{_!_}
-use Rattle.texts.specs.Text.{EOR, TPAD, controlA, controlB, xorAll, checkByte, textOf}
+use lib.ListN.{length, take, drop, length-append}
+use lib.Seq.{take-at}
+use Rattle.texts.specs.Text.{EOR, controlA, controlB, xorAll, checkByte, textOf}
 use Rattle.texts.specs.Part.{blockIn, AlteredTo, here, there, UndamagedText}
 use Rattle.texts.proofs.Xor.{xor-cancel-left, xor-cancel-right}
 

@@ -1,15 +1,16 @@
 -- Kinds: the table read both ways, and the lengths that kinds settle. Assumes nothing.
-use mathlib.Core.Path.{_≡_, refl, sym, ap, _∙_, subst}
+use mathlib.Core.Path.{_≡_, refl, sym, _∙_, subst}
 use mathlib.Core.Logic.{_⊎_, inl, inr}
-use mathlib.Core.Bool.{Bool, true, false, cond, not, _&&_, _||_}
+use mathlib.Core.Bool.{Bool, true, false, not, _&&_, _||_, true≢false}
 use mathlib.Core.List.{List, [], _∷_}
-use Prim.Native.Nat.{ℕ, zero, suc, _+_, _≤_, _<_}
+use Prim.Native.Nat.{ℕ, zero, suc, _≤_, _<_}
 use native.Mathlib.Nat.{le-refl}
 use native.Mathlib.Omega.{arith}
 use lib.Dec.{eqb, leb, lit≤}
-use borrow.Author.Tests.{eqb-true, eqb-false, leb-true, eq-eqb}
+use borrow.Author.Tests.{eqb-true, leb-true, ne-eqb}
 use Rattle.texts.specs.Kinds.{Kind, kind, kinds, byCode, byText, isPartNumber, partOf, textNumber, kindOf, isKind, isStartKind, isDataKind, isEndKind, dataBlockLength, blockLength, dataTexts}
-use Rattle.text_laws.proofs.Rules.{by-test, never, and-split}
+use Rattle.texts.proofs.Finite.{same-tests}
+use Rattle.text_laws.proofs.Rules.{by-test, by-if, never, and-split}
 
 abbrev everyRow : (Kind → Bool) → List Kind → Bool
 everyRow test [] = true
@@ -114,3 +115,38 @@ most-texts p true = by-test (eqb p 3) (λ e. rw e (lit≤ tt)) (λ e. rw e (omeg
 pub no-texts : (p : ℕ) → eqb p 3 ≡ false → dataTexts p true ≡ 0
 unfolding dataTexts
 no-texts p h = rw h
+
+-- ---- what the table settles for arithmetic on places and text numbers
+
+or-right : (a b : Bool) → a ≡ false → (a || b) ≡ true → b ≡ true
+or-right true b e t = absurd (true≢false e)
+or-right false b e t = t
+
+pub block-most : (k : ℕ) → blockLength k ≤ 2003
+unfolding blockLength dataBlockLength
+block-most k =
+    by-if (λ n. n ≤ 2003) (isDataKind k)
+    (λ _. by-if (λ n. n ≤ 2003) (eqb (partOf k) 1) (λ _. lit≤ tt)
+    (λ _. by-if (λ n. n ≤ 2003) (eqb (partOf k) 2) (λ _. lit≤ tt)
+    (λ _. by-if (λ n. n ≤ 2003) (eqb (partOf k) 3) (λ _. lit≤ tt) (λ _. lit≤ tt))))
+    (λ _. by-if (λ n. n ≤ 2003) (isKind k) (λ _. lit≤ tt) (λ _. lit≤ tt))
+
+-- what a kind has that is neither a start nor an end kind
+abbrev dataFacts : ℕ → Bool
+dataFacts k = (leb 1 (textNumber k) && leb (textNumber k) 10) && (isDataKind k && leb 103 (blockLength k))
+
+table : (k : ℕ) → k < 256 → (isStartKind k || (isEndKind k || (eqb (blockLength k) 0 || dataFacts k))) ≡ true
+unfolding blockLength dataBlockLength isDataKind isStartKind isEndKind isKind partOf textNumber kinds
+table = same-tests 256 (λ k. isStartKind k || (isEndKind k || (eqb (blockLength k) 0 || dataFacts k))) (λ _. true) tt
+
+module _ (k : ℕ) (h : k < 256) (s : isStartKind k ≡ false) (e : isEndKind k ≡ false) (l : 3 < blockLength k) where
+  facts : (leb 1 (textNumber k) && leb (textNumber k) 10 ≡ true) × (isDataKind k && leb 103 (blockLength k) ≡ true)
+  facts = and-split _ _ (or-right _ _ (ne-eqb (blockLength k) 0 (λ z. omega (arith, z, l))) (or-right _ _ e (or-right _ _ s (table k h))))
+
+  -- a data text's number
+  pub data-number : (1 ≤ textNumber k) × (textNumber k ≤ 10)
+  data-number = let (one, ten) = and-split _ _ (facts .0) in (leb-true _ _ one, leb-true _ _ ten)
+
+  -- a data kind, whose block has 103 bytes or more
+  pub data-kind : (isDataKind k ≡ true) × (103 ≤ blockLength k)
+  data-kind = let (is, long) = and-split _ _ (facts .1) in (is, leb-true _ _ long)

@@ -3,21 +3,21 @@
 -- before status 1 stands the NULL byte, before the check byte the EOR. Assumes nothing.
 use mathlib.Core.Path.{_≡_, refl, sym, ap, _∙_, subst}
 use mathlib.Core.Logic.{_⊎_, inl, inr, _≢_, ⊎-elim}
-use mathlib.Core.Bool.{Bool, true, false, cond, not, _&&_, _||_}
+use mathlib.Core.Bool.{Bool, true, false, not, _&&_, _||_}
 use mathlib.Core.List.{List, [], _∷_, _++_, append-assoc, head-eq-of-cons-eq, tail-eq-of-cons-eq}
 use Prim.Native.Nat.{ℕ, zero, suc, _+_, _-_, _≤_, _<_}
 use native.Mathlib.Omega.{arith}
-use lib.Dec.{T, eqb, leb, ltb, lit<}
-use lib.ListN.{length, getD, take, drop, length-append, length-take, length-drop, List·getD-append}
+use lib.Dec.{eqb, ltb}
+use lib.ListN.{length, take, drop, length-append, length-take, length-drop, List·getD-append}
 use lib.Seq.{getD-append-add, getD-drop, getD-take, take-suc}
-use borrow.Author.Tests.{eqb-true, eqb-false, leb-true, ltb-true, ltb-false, eq-eqb}
-use Rattle.texts.specs.Bytes.{_!_, bit, isIn, every, allOf}
-use Rattle.texts.specs.Text.{LPAD, SYN, DLE, FD, STX, EOR, TPAD, controlA, controlB, opening, checkByte, textOf}
+use borrow.Author.Tests.{eqb-true, ltb-true, ltb-false}
+use Rattle.texts.specs.Bytes.{_!_, bit, isIn, every}
+use Rattle.texts.specs.Text.{LPAD, SYN, DLE, FD, STX, EOR, TPAD, controlA, controlB, opening, textOf}
 use Rattle.texts.specs.Pictures.{isPictureCode, pictureCodes}
 use Rattle.texts.specs.Kinds.{isKind, isStartKind, isDataKind, isEndKind, partOf, textNumber, kinds}
-use Rattle.texts.specs.StartBlock.{modeOf, hasMode, isClockByte, isTimeText, timeTextOf, digitPlaces, stopPlaces, isDigit, isTime, digitsOf, isRadarCode, radarCodes, rising, isRadarList, radarsOf, isStartBlock}
-use Rattle.texts.specs.DataBlock.{isPayloadByte, payloadOf, isDataBlock}
-use Rattle.texts.specs.EndBlock.{radarPlaces, isModeByte, isEndBlock}
+use Rattle.texts.specs.StartBlock.{modeOf, hasMode, isClockByte, isTimeText, timeTextOf, digitPlaces, stopPlaces, isDigit, isRadarCode, radarCodes, rising, isRadarList, radarsOf}
+use Rattle.texts.specs.DataBlock.{isPayloadByte, payloadOf}
+use Rattle.texts.specs.EndBlock.{radarPlaces, isModeByte}
 use Rattle.texts.specs.Part.{Block, startBlock, dataBlock, endBlock, UndamagedText}
 use Rattle.text_laws.proofs.Rules.{by-test, never, and-split, or-split, rule-at, every-at, every-in, tabled}
 use Rattle.text_laws.proofs.Framing.{text-length, append-parts}

@@ -2,22 +2,22 @@
 use mathlib.Core.Path.{_≡_, refl, sym, ap, ap₂, _∙_, subst}
 use mathlib.Core.Bool.{Bool, true, _&&_}
 use mathlib.Core.List.{List, [], _∷_, _++_, append-assoc, append-nil, map}
-use Prim.Native.Nat.{ℕ, zero, suc, _+_, _*_, _-_, _≤_, _<_}
+use Prim.Native.Nat.{ℕ, suc, _+_, _*_, _-_, _≤_, _<_}
 use native.Mathlib.Nat.{suc-mul, zero-mul}
 use native.Mathlib.Omega.{arith}
 use lib.Dec.{eqb, lit≤}
-use lib.ListN.{length, getD, take, drop, replicate, length-append, length-drop, length-replicate}
+use lib.ListN.{length, take, drop, replicate, length-append, length-drop, length-replicate}
 use lib.Seq.{take-at, drop-at, drop-drop, take-take, getD-take, getD-drop}
 use borrow.Author.Tests.{eqb-true}
 use Rattle.texts.specs.Bytes.{_!_}
-use Rattle.texts.specs.Text.{controlA, controlB, textOf}
-use Rattle.texts.specs.Kinds.{isKind, isPartNumber, partOf, kindOf, dataBlockLength, blockLength, textLength, dataTexts, partLength}
+use Rattle.texts.specs.Text.{controlB, textOf}
+use Rattle.texts.specs.Kinds.{isKind, partOf, kindOf, dataBlockLength, textLength, dataTexts, partLength}
 use Rattle.texts.specs.StartBlock.{noEchoOf, radarsOf}
 use Rattle.texts.specs.DataBlock.{payloadOf, isDataBlock}
 use Rattle.texts.specs.Part.{Part, textsOf, partBytes, isTextOf, inOrder, startPart, dataTextsAfter, isPart, UndamagedPart, gridLength, payloadsOf, zeros, gridOf, cutBlocks, cutPart}
 use Rattle.text_laws.proofs.Rules.{by-test, and-split}
 use Rattle.text_laws.proofs.Framing.{text-length}
-use Rattle.text_laws.proofs.Blocks.{StartRules, start-rules, DataRules, data-rules, EndRules, end-rules, PartRules, part-rules}
+use Rattle.text_laws.proofs.Blocks.{start-rules, data-rules, end-rules, PartRules, part-rules}
 use Rattle.text_laws.proofs.KindTable.{kind-part, text-back, data-is-kind, start-is-kind, data-block-length}
 
 -- blocks of one length

@@ -21,15 +21,15 @@ fn payload_digits(b: u8) {
 fn line(b: u8) {
     word(b"byte");
     byte(b);
-    answer(texts::codes::is_picture_code(b));
-    answer(texts::codes::is_radar_code(b));
-    answer(texts::kinds::is_kind(b));
-    byte(texts::kinds::part_of_kind(b));
-    byte(texts::kinds::text_of_kind(b));
-    number16(texts::kinds::block_length(b));
-    answer(texts::modes::no_echo_of(b));
-    byte(texts::modes::mode_of(b));
-    byte(texts::modes::mode_byte(b));
+    answer(codes::table::is_picture_code(b));
+    answer(codes::table::is_radar_code(b));
+    answer(kinds::table::is_kind(b));
+    byte(kinds::table::part_of_kind(b));
+    byte(kinds::table::text_of_kind(b));
+    number16(lengths::block::block_length(b));
+    answer(modes::status::no_echo_of(b));
+    byte(modes::status::mode_of(b));
+    byte(modes::status::mode_byte(b));
     payload_digits(b);
     end_line();
 }

@@ -3,7 +3,7 @@ use mathlib.Core.Path.{_≡_, refl}
 use mathlib.Core.Bool.{true, false}
 use mathlib.Core.List.{List, [], _∷_, _++_}
 use Prim.Native.Nat.{ℕ}
-use lib.ListN.{replicate}
+use lib.ListN.{replicate, drop}
 use Rattle.texts.specs.Bytes.{bit, isIn, every, allOf, same}
 use Rattle.texts.specs.Text.{xorAll, checkByte, textOf}
 use Rattle.texts.specs.Pictures.{pictureCodes, isPictureCode}
@@ -80,12 +80,13 @@ sample-rows =
       check-4F = refl;
     }
 
--- The sample's texts are undamaged, and together they are an undamaged part: intensity with NO ECHO.
--- The same part with quality's kinds is none: quality always has a data text
+-- The sample's texts are undamaged, and together they are an undamaged part: intensity with NO ECHO. The end text before the
+-- start text is none, and the same two texts with quality's kinds are none: quality always has a data text
 pub sample-part :
     (isUndamagedText (textOf sampleStart) ≡ true)
     × (isUndamagedText (textOf sampleEnd) ≡ true)
     × (isUndamagedPart (textOf sampleStart ++ textOf sampleEnd) ≡ true)
     × (isUndamagedPart (textOf sampleEnd ++ textOf sampleStart) ≡ false)
+    × (isUndamagedPart (textOf (0xFD ∷ 0xCC ∷ 0x30 ∷ drop 3 sampleStart) ++ textOf (0xFD ∷ 0xCC ∷ 0x3F ∷ drop 3 sampleEnd)) ≡ false)
 unfolding bit isIn every allOf same xorAll checkByte textOf pictureCodes isPictureCode kinds partOf textNumber kindOf isKind isStartKind isEndKind isDataKind dataTexts dataBlockLength blockLength noEchoOf modeOf hasMode modeByte isClockByte isLeapYear daysIn isMoment yearOf isTime isDigit digitsOf isTimeText radarCodes isRadarCode rising isRadarList isStartBlock isModeByte isEndBlock isDataBlock modesOf highest textsOf partBytes inOrder isPart radarsFor isBlock isUndamagedText cutBlocks cutPart isUndamagedPart
-sample-part = (refl, refl, refl, refl)
+sample-part = (refl, refl, refl, refl, refl)

@@ -1,6 +1,6 @@
 -- The rule of a header and modes that a writer is handed (01, row 32). Assumes nothing.
 use Prim.Native.Nat.{ℕ}
-use mathlib.Core.Bool.{Bool, true, false, cond, _&&_}
+use mathlib.Core.Bool.{Bool, cond, _&&_}
 use mathlib.Core.List.{List, [], _∷_}
 use lib.Dec.{eqb, leb}
 use Rattle.texts.specs.Bytes.{_!_, every, allOf}

@@ -3,7 +3,7 @@ use crate::out::list;
 use crate::out::number;
 use crate::out::spaced;
 use crate::out::word;
-use step::state::State;
+use states::state::State;
 use texts::header::Header;
 ghost use Prim.Native.Nat.{_≤_, _<_};
 ghost use lib.ListN.{length};

@@ -15,7 +15,7 @@ mod runs;
 
 use crate::runs::Heard;
 use libc::STDIN_FILENO;
-use receiver::calls::fresh;
+use states::state::fresh;
 
 // Reads once, as much as there is, and hears it
 fn hear_some(

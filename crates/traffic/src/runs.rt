@@ -5,9 +5,9 @@ use crate::out::flush;
 use crate::out::spaced;
 use crate::out::word;
 use receiver::calls::byte_call;
-use receiver::calls::number_of;
-use receiver::calls::slice_call;
-use step::state::State;
+use slice_receiver::calls::slice_call;
+use states::answer::number_of;
+use states::state::State;
 ghost use Prim.Native.Nat.{_≤_};
 ghost use lib.ListN.{length};
 

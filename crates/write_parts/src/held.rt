@@ -4,7 +4,7 @@ use crate::print::end_line;
 use crate::print::list;
 use crate::print::number;
 use crate::sums::adler;
-use step::state::State;
+use states::state::State;
 
 // Header, modes and the grid's sum, to the line's end
 pub fn numbers(s: State, grid: &[u8]) {

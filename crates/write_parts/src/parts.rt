@@ -4,8 +4,8 @@ use crate::given::heading;
 use crate::given::modes;
 use crate::payloads::fill;
 use crate::read_back::read_back;
-use receiver::calls::fresh;
-use step::state::State;
+use states::state::State;
+use states::state::fresh;
 ghost use Prim.Native.Nat.{_≤_};
 
 // Writes the part, and gives what was written to the receiver

@@ -5,9 +5,9 @@ use crate::print::byte;
 use crate::print::end_line;
 use crate::print::number;
 use crate::print::word;
-use receiver::calls::number_of;
-use receiver::calls::slice_call;
-use step::state::State;
+use slice_receiver::calls::slice_call;
+use states::answer::number_of;
+use states::state::State;
 
 fn took(count: usize, answer: u8, s: State, grid: &[u8]) {
     word(b"took");

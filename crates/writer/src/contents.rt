@@ -1,7 +1,7 @@
 // Start and end blocks from byte 3 on.
+use modes::status::highest_mode;
+use modes::status::mode_byte;
 use texts::header::Heading;
-use texts::modes::highest_mode;
-use texts::modes::mode_byte;
 ghost use mathlib.Core.Path.{_≡_};
 ghost use mathlib.Core.Bool.{true};
 ghost use lib.Dec.{leb};

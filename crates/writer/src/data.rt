@@ -1,10 +1,10 @@
 // Data texts, and the rule of a payload.
 use crate::text::write_text;
+use kinds::table::kind_of;
+use lengths::block::data_block_length;
+use lengths::part::data_texts;
+use lengths::part::payload_length;
 use texts::bytes::are_zero;
-use texts::kinds::data_block_length;
-use texts::kinds::data_texts;
-use texts::kinds::kind_of;
-use texts::kinds::payload_length;
 use texts::payload::are_payload_bytes;
 ghost use mathlib.Core.Path.{_≡_};
 ghost use mathlib.Core.Bool.{true, false};

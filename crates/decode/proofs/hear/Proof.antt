@@ -1,4 +1,4 @@
--- Each turn takes a byte at least and stays within the bytes; the grid keeps its length. Assumes nothing.
+-- Each turn takes a byte at least and stays within the bytes; grid and counts keep their lengths. Assumes nothing.
 use mathlib.Core.Path.{_≡_}
 use Prim.Native.Nat.{_≤_, _-_}
 use lib.ListN.{length}
@@ -7,10 +7,10 @@ use Rattle.decode.proofs.hear.Statement.{statement}
 use Rattle.decode.proofs.hear.Tie as tie
 
 abbrev Inv-loop : tie.InvT-loop
-Inv-loop heard grid₀ bytes s₀ totals₀ at₀ grid s totals at = (at ≤ length bytes) × (length grid ≡ length grid₀)
+Inv-loop total grid₀ bytes counts₀ s₀ at₀ grid counts s at = (at ≤ length bytes) × (length grid ≡ length grid₀) × (length counts ≡ length counts₀)
 
 abbrev μ-loop : tie.MeasureT-loop
-μ-loop heard grid₀ bytes s₀ totals₀ at₀ grid s totals at = length bytes - at
+μ-loop total grid₀ bytes counts₀ s₀ at₀ grid counts s at = length bytes - at
 
 pub hear-spec : {M : Type 1} → statement M
 hear-spec =
@@ -19,15 +19,13 @@ hear-spec =
     Inv-loop
     μ-loop
     (λ c. search needs)
+    (λ c κs. search needs)
     (λ c. search needs)
     (λ c. search needs)
     (λ c. search needs)
     (λ c κs. search needs)
     (λ c. search needs)
     (λ c κs. search needs)
-    (λ c κs. search needs)
-    (λ c. search needs)
-    (λ c. search needs)
     (λ c. search needs)
     (λ c κs. search needs)
     (λ c κs. search needs)
@@ -35,6 +33,6 @@ hear-spec =
     (λ c κs. search needs)
     (λ c. search needs)
     (λ c. search needs)
-    (λ c κs. search needs)
+    (λ c. search needs)
     (λ c. search needs)
     (λ c. search needs))

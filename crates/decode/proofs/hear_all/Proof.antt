@@ -1,4 +1,4 @@
--- The turns left grow fewer; grid and buffer keep their lengths. Assumes nothing.
+-- The turns left grow fewer; grid, buffer and counts keep their lengths. Assumes nothing.
 use mathlib.Core.Path.{_≡_}
 use lib.ListN.{length}
 use borrow.Author.Needs.{needs}
@@ -6,10 +6,10 @@ use Rattle.decode.proofs.hear_all.Statement.{statement}
 use Rattle.decode.proofs.hear_all.Tie as tie
 
 abbrev Inv-loop : tie.InvT-loop
-Inv-loop grid₀ buffer₀ heard₀ turns₀ grid buffer heard turns = (length grid ≡ length grid₀) × (length buffer ≡ length buffer₀)
+Inv-loop grid₀ buffer₀ counts₀ s₀ total₀ turns₀ grid buffer counts s total turns = (length grid ≡ length grid₀) × (length buffer ≡ length buffer₀) × (length counts ≡ length counts₀)
 
 abbrev μ-loop : tie.MeasureT-loop
-μ-loop grid₀ buffer₀ heard₀ turns₀ grid buffer heard turns = turns
+μ-loop grid₀ buffer₀ counts₀ s₀ total₀ turns₀ grid buffer counts s total turns = turns
 
 pub hear-all-spec : {M : Type 1} → statement M
 hear-all-spec =
@@ -18,11 +18,17 @@ hear-all-spec =
     Inv-loop
     μ-loop
     (λ c κs. search needs)
-    (λ c κs. search needs)
     (λ c. search needs)
     (λ c κs. search needs)
     (λ c. search needs)
     (λ c. search needs)
+    (λ c. search needs)
+    (λ c. search needs)
+    (λ c κs. search needs)
+    (λ c. search needs)
+    (λ c. search needs)
+    (λ c κs. search needs)
+    (λ c κs. search needs)
     (λ c. search needs)
     (λ c. search needs)
     (λ c. search needs)

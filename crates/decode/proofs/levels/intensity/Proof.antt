@@ -5,10 +5,10 @@ use Rattle.decode.proofs.levels.intensity.Statement.{statement}
 use Rattle.decode.proofs.levels.intensity.Tie as tie
 
 abbrev Inv-loop : tie.InvT-loop
-Inv-loop grid level₀ level = Unit {0}
+Inv-loop out₀ used grid at₀ level₀ out at level = Unit {0}
 
 abbrev μ-loop : tie.MeasureT-loop
-μ-loop grid level₀ level = 15 - level
+μ-loop out₀ used grid at₀ level₀ out at level = 15 - level
 
 pub intensity-spec : {M : Type 1} → statement M
 intensity-spec =

@@ -5,10 +5,10 @@ use Rattle.decode.proofs.levels.tops.Statement.{statement}
 use Rattle.decode.proofs.levels.tops.Tie as tie
 
 abbrev Inv-loop : tie.InvT-loop
-Inv-loop payload level₀ t4 t5 t6 level = Unit {0}
+Inv-loop out₀ used payload at₀ level₀ t6 out at level = Unit {0}
 
 abbrev μ-loop : tie.MeasureT-loop
-μ-loop payload level₀ t4 t5 t6 level = 9 - level
+μ-loop out₀ used payload at₀ level₀ t6 out at level = 9 - level
 
 pub tops-spec : {M : Type 1} → statement M
 tops-spec =
@@ -18,8 +18,6 @@ tops-spec =
     μ-loop
     (λ c. search needs)
     (λ c κs. search needs)
-    (λ c. search needs)
-    (λ c. search needs)
     (λ c. search needs)
     (λ c κs. search needs)
     (λ c. search needs)

@@ -6,10 +6,10 @@ use Rattle.decode.proofs.line.put.Statement.{statement}
 use Rattle.decode.proofs.line.put.Tie as tie
 
 abbrev Inv-loop : tie.InvT-loop
-Inv-loop word l₀ i₀ l i = Unit {0}
+Inv-loop out₀ used word at₀ i₀ out at i = Unit {0}
 
 abbrev μ-loop : tie.MeasureT-loop
-μ-loop word l₀ i₀ l i = length word - i
+μ-loop out₀ used word at₀ i₀ out at i = length word - i
 
 pub put-spec : {M : Type 1} → statement M
 put-spec =

@@ -5,10 +5,10 @@ use Rattle.decode.proofs.part.radar_lines.Statement.{statement}
 use Rattle.decode.proofs.part.radar_lines.Tie as tie
 
 abbrev Inv-loop : tie.InvT-loop
-Inv-loop radars modes i₀ i = Unit {0}
+Inv-loop out₀ used radars modes at₀ i₀ out at i = Unit {0}
 
 abbrev μ-loop : tie.MeasureT-loop
-μ-loop radars modes i₀ i = 8 - i
+μ-loop out₀ used radars modes at₀ i₀ out at i = 8 - i
 
 pub radar-lines-spec : {M : Type 1} → statement M
 radar-lines-spec =
@@ -16,7 +16,6 @@ radar-lines-spec =
     (tie.spec
     Inv-loop
     μ-loop
-    (λ c. search needs)
     (λ c. search needs)
     (λ c. search needs)
     (λ c. search needs)

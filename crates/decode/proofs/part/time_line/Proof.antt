@@ -5,10 +5,10 @@ use Rattle.decode.proofs.part.time_line.Statement.{statement}
 use Rattle.decode.proofs.part.time_line.Tie as tie
 
 abbrev Inv-loop : tie.InvT-loop
-Inv-loop digits l₀ i₀ l i = Unit {0}
+Inv-loop out₀ used digits at₀ i₀ out at i = Unit {0}
 
 abbrev μ-loop : tie.MeasureT-loop
-μ-loop digits l₀ i₀ l i = 12 - i
+μ-loop out₀ used digits at₀ i₀ out at i = 12 - i
 
 pub time-line-spec : {M : Type 1} → statement M
 time-line-spec =
@@ -21,9 +21,9 @@ time-line-spec =
     (λ c. search needs)
     (λ c κs. search needs)
     (λ c. search needs)
-    (λ c κs. search needs)
-    (λ c. search needs)
-    (λ c. search needs)
     (λ c. search needs)
     (λ c κs. search needs)
+    (λ c. search needs)
+    (λ c. search needs)
+    (λ c. search needs)
     (λ c. search needs))

@@ -5,10 +5,10 @@ use Rattle.decode.proofs.quality.put_causes.Statement.{statement}
 use Rattle.decode.proofs.quality.put_causes.Tie as tie
 
 abbrev Inv-loop : tie.InvT-loop
-Inv-loop value l₀ i₀ t6 l i = Unit {0}
+Inv-loop out₀ used value at₀ i₀ out at i = Unit {0}
 
 abbrev μ-loop : tie.MeasureT-loop
-μ-loop value l₀ i₀ t6 l i = 6 - i
+μ-loop out₀ used value at₀ i₀ out at i = 6 - i
 
 pub put-causes-spec : {M : Type 1} → statement M
 put-causes-spec =
@@ -20,8 +20,6 @@ put-causes-spec =
     (λ c κs. search needs)
     (λ c. search needs)
     (λ c. search needs)
-    (λ c. search needs)
-    (λ c κs. search needs)
     (λ c κs. search needs)
     (λ c. search needs)
     (λ c. search needs)

@@ -5,10 +5,10 @@ use Rattle.decode.proofs.quality.values.Statement.{statement}
 use Rattle.decode.proofs.quality.values.Tie as tie
 
 abbrev Inv-loop : tie.InvT-loop
-Inv-loop payload value₀ value = Unit {0}
+Inv-loop out₀ used payload at₀ value₀ out at value = Unit {0}
 
 abbrev μ-loop : tie.MeasureT-loop
-μ-loop payload value₀ value = 65 - value
+μ-loop out₀ used payload at₀ value₀ out at value = 65 - value
 
 pub values-spec : {M : Type 1} → statement M
 values-spec =

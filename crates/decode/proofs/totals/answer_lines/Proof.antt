@@ -5,10 +5,10 @@ use Rattle.decode.proofs.totals.answer_lines.Statement.{statement}
 use Rattle.decode.proofs.totals.answer_lines.Tie as tie
 
 abbrev Inv-loop : tie.InvT-loop
-Inv-loop totals number₀ number = Unit {0}
+Inv-loop out₀ counts at₀ number₀ out at number = Unit {0}
 
 abbrev μ-loop : tie.MeasureT-loop
-μ-loop totals number₀ number = 23 - number
+μ-loop out₀ counts at₀ number₀ out at number = 23 - number
 
 pub answer-lines-spec : {M : Type 1} → statement M
 answer-lines-spec =
@@ -17,7 +17,9 @@ answer-lines-spec =
     Inv-loop
     μ-loop
     (λ c. search needs)
-    (λ c κs. search needs)
+    (λ c. search needs)
+    (λ c. search needs)
+    (λ c. search needs)
     (λ c κs. search needs)
     (λ c. search needs)
     (λ c. search needs)

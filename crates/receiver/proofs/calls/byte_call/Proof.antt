@@ -4,7 +4,7 @@ use mathlib.Core.Bool.{true, not}
 use mathlib.Core.List.{List, [], _∷_}
 use Prim.Native.Nat.{ℕ, _+_, _*_, _-_, _<_}
 use native.Mathlib.Omega.{arith}
-use lib.ListN.{length, take, set}
+use lib.ListN.{length, set}
 use borrow.Author.Needs.{needs}
 use borrow.Author.Tests.{eq-eqb, ne-eqb, not-false}
 use Rattle.texts.specs.Part.{gridLength}
@@ -12,16 +12,14 @@ use Rattle.stream.specs.State.{isPossible}
 use Rattle.stream.specs.Receiver.{_⊕_}
 use Rattle.stream.specs.Calls.{byteCall}
 use Rattle.last_bytes.specs.AsNumber.{pushSeen}
-use Rattle.step.specs.Meaning.{stateOf}
-use Rattle.step.specs.Decide.{decide, applied}
-use Rattle.step.specs.declared.state.State.{State}
-use Rattle.step.specs.declared.state.Decided.{Decided}
-use Rattle.step.specs.declared.state.Answer.the-variants.{Quiet}
-use Rattle.receiver.specs.Returned.{returned, replyOf, seenAfter, appliedTo}
-use Rattle.receiver.specs.Run.{paid, isPayloadHere}
-use Rattle.receiver.specs.declared.calls.Got.{Got}
-use Rattle.receiver.proofs.Leaves.{decide-leaf}
-use Rattle.receiver.proofs.Runs.{same-step, applied-here}
+use Rattle.states.specs.Meaning.{stateOf, appliedTo}
+use Rattle.step.specs.Decide.{decide}
+use Rattle.states.specs.declared.state.State.{State}
+use Rattle.step.specs.declared.decide.Decided.{Decided}
+use Rattle.states.specs.declared.answer.Answer.the-variants.{Quiet}
+use Rattle.receiver.specs.Returned.{returned, replyOf, seenAfter}
+use Rattle.receiver.specs.Paid.{paid, isPayloadHere}
+use Rattle.receiver.proofs.Leaves.{decide-leaf, same-step, applied-here}
 use Rattle.receiver.proofs.Payloads.{here-has, short-here, possible-here, decide-here}
 use Rattle.receiver.proofs.calls.byte_call.Statement.{statement}
 use Rattle.receiver.proofs.calls.byte_call.Tie as tie

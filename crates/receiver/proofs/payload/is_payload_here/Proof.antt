@@ -2,7 +2,7 @@
 use mathlib.Core.Bool.{and-false}
 use borrow.Author.Needs.{needs}
 use borrow.Author.Tests.{eq-eqb, ne-eqb, le-leb, lt-leb, lt-ltb, le-ltb}
-use Rattle.receiver.specs.Run.{isPayloadHere}
+use Rattle.receiver.specs.Paid.{isPayloadHere}
 use Rattle.receiver.proofs.payload.is_payload_here.Statement.{statement}
 use Rattle.receiver.proofs.payload.is_payload_here.Tie as tie
 

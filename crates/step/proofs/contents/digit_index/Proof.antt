@@ -7,7 +7,7 @@ use borrow.Author.Needs.{needs}
 use borrow.Author.Tests.{lt-ltb, le-ltb}
 use Rattle.texts.specs.Bytes.{isIn}
 use Rattle.texts.proofs.Finite.{same-numbers}
-use Rattle.step.specs.Meaning.{isStop, digitIndex}
+use Rattle.step.specs.Time.{isStop, digitIndex}
 use Rattle.step.proofs.contents.digit_index.Statement.{statement}
 use Rattle.step.proofs.contents.digit_index.Tie as tie
 

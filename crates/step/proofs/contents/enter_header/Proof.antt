@@ -1,17 +1,18 @@
 -- Each way out is a case of the definition. A digit that the time takes is 48 or more. Assumes nothing.
 use mathlib.Core.Path.{_≡_, sym, _∙_}
-use mathlib.Core.Bool.{true, false, _||_, not}
+use mathlib.Core.Bool.{Bool, true, false, cond, _||_, not}
 use mathlib.Core.List.{List}
-use Prim.Native.Nat.{ℕ, _-_, _≤_}
+use Prim.Native.Nat.{ℕ, _-_, _/_, _%_, _≤_, _<_}
 use native.Mathlib.Omega.{arith}
 use lib.Dec.{eqb, leb}
+use lib.ListN.{set}
 use borrow.Author.Needs.{needs}
-use borrow.Author.Tests.{eq-eqb, ne-eqb, le-leb, lt-leb, leb-true}
-use Rattle.texts.specs.StartBlock.{isDigit, isTime}
+use borrow.Author.Tests.{ne-eqb, le-leb, lt-leb, leb-true}
+use Rattle.texts.specs.StartBlock.{noEchoOf, modeOf, clockOf, isDigit, isTime}
 use Rattle.texts.specs.declared.header.Header.{Header}
 use Rattle.text_laws.proofs.Rules.{and-split}
-use Rattle.stream.specs.Contents.{timeTakes, withDigit, startTakes, enterHeader}
-use Rattle.step.specs.Meaning.{isStop}
+use Rattle.stream.specs.Contents.{timeTakes, withDigit, startTakes, withNoEcho, withMode, withClock, withTime, withRadars, enterHeader}
+use Rattle.step.specs.Time.{isStop}
 use Rattle.step.proofs.contents.enter_header.Statement.{statement}
 use Rattle.step.proofs.contents.enter_header.Tie as tie
 
@@ -33,65 +34,75 @@ time-byte h i b l m t =
     )
     at t
 
+-- the header after byte i, by i
+module _ (h : Header) (i b : ℕ) where
+  at-3 : i ≡ 3 → h ≡ enterHeader h i b
+  unfolding enterHeader
+  at-3 p = rw p
+
+  at-4 : {e : Bool} → i ≡ 4 → e ≡ noEchoOf b → withNoEcho h e ≡ enterHeader h i b
+  unfolding enterHeader
+  at-4 p q = rw (p, q)
+
+  at-5 : {m : ℕ} → i ≡ 5 → m ≡ modeOf b → withMode h m ≡ enterHeader h i b
+  unfolding enterHeader
+  at-5 p q = rw (p, q)
+
+  at-6 : {k : ℕ} → i ≡ 6 → k ≡ clockOf b 0 → withClock h k ≡ enterHeader h i b
+  unfolding enterHeader
+  at-6 p q = rw (p, q)
+
+  at-7 : {k : ℕ} → i ≡ 7 → k ≡ clockOf (h .clock / 128 % 128) b → withClock h k ≡ enterHeader h i b
+  unfolding enterHeader
+  at-7 p q = rw (p, q)
+
+  at-time : 8 ≤ i → i ≤ 23 → enterHeader h i b ≡ cond (isStop (i - 8)) h (withTime h (withDigit (h .time) (i - 8) b))
+  unfolding enterHeader isStop
+  at-time l m =
+      simp (
+        ne-eqb i 3 (λ e. omega arith),
+        ne-eqb i 4 (λ e. omega arith),
+        ne-eqb i 5 (λ e. omega arith),
+        ne-eqb i 6 (λ e. omega arith),
+        ne-eqb i 7 (λ e. omega arith),
+        le-leb i 23 m,
+      )
+
+  at-stop : 8 ≤ i → i ≤ 23 → isStop (i - 8) ≡ true → h ≡ enterHeader h i b
+  at-stop l m s = rw (at-time l m, s)
+
+  at-digit : {t : List ℕ} → 8 ≤ i → i ≤ 23 → isStop (i - 8) ≡ false → t ≡ withDigit (h .time) (i - 8) b → withTime h t ≡ enterHeader h i b
+  at-digit l m s q = rw (at-time l m, s, q)
+
+  at-radar : 23 < i → withRadars h (set (h .radars) (i - 24) b) ≡ enterHeader h i b
+  unfolding enterHeader
+  at-radar l =
+      simp (
+        ne-eqb i 3 (λ e. omega arith),
+        ne-eqb i 4 (λ e. omega arith),
+        ne-eqb i 5 (λ e. omega arith),
+        ne-eqb i 6 (λ e. omega arith),
+        ne-eqb i 7 (λ e. omega arith),
+        lt-leb i 23 l,
+      )
+
 returns : tie.Need-returns
-unfolding enterHeader
-returns c = simp (eq-eqb _ _ (c .if1 .taken))
+returns c = at-3 _ _ _ (c .if1 .taken)
 
 returns-2 : tie.Need-returns-2
-unfolding enterHeader
-returns-2 c =
-    let second = c .before in
-    simp (ne-eqb _ _ (second .before .if1 .left), eq-eqb _ _ (second .if2 .taken), c .no-echo-of .ensures)
+returns-2 c = at-4 _ _ _ (c .before .if2 .taken) (c .no-echo-of .ensures)
 
 returns-3 : tie.Need-returns-3
-unfolding enterHeader
-returns-3 c =
-    let third = c .before in
-    simp (
-      ne-eqb _ _ (third .before .before .if1 .left),
-      ne-eqb _ _ (third .before .if2 .left),
-      eq-eqb _ _ (third .if3 .taken),
-      c .mode-of .ensures,
-    )
+returns-3 c = at-5 _ _ _ (c .before .if3 .taken) (c .mode-of .ensures)
 
 returns-4 : tie.Need-returns-4
-unfolding enterHeader
-returns-4 c =
-    let fourth = c .before in
-    simp (
-      ne-eqb _ _ (fourth .before .before .before .if1 .left),
-      ne-eqb _ _ (fourth .before .before .if2 .left),
-      ne-eqb _ _ (fourth .before .if3 .left),
-      eq-eqb _ _ (fourth .if4 .taken),
-      c .clock-of .ensures,
-    )
+returns-4 c = at-6 _ _ _ (c .before .if4 .taken) (c .clock-of .ensures)
 
 returns-5 : tie.Need-returns-5
-unfolding enterHeader
-returns-5 c =
-    let fifth = c .before .before in
-    simp (
-      ne-eqb _ _ (fifth .before .before .before .before .if1 .left),
-      ne-eqb _ _ (fifth .before .before .before .if2 .left),
-      ne-eqb _ _ (fifth .before .before .if3 .left),
-      ne-eqb _ _ (fifth .before .if4 .left),
-      eq-eqb _ _ (fifth .if5 .taken),
-      c .clock-of2 .ensures,
-    )
+returns-5 c = at-7 _ _ _ (c .before .before .if5 .taken) (c .clock-of2 .ensures)
 
 returns-6 : tie.Need-returns-6
-unfolding enterHeader isStop
-returns-6 c =
-    let sixth = c .before .before in
-    simp (
-      ne-eqb _ _ (sixth .before .before .before .before .before .if1 .left),
-      ne-eqb _ _ (sixth .before .before .before .before .if2 .left),
-      ne-eqb _ _ (sixth .before .before .before .if3 .left),
-      ne-eqb _ _ (sixth .before .before .if4 .left),
-      ne-eqb _ _ (sixth .before .if5 .left),
-      le-leb _ _ (sixth .if6 .taken),
-      sym (c .before .is-stop .ensures) ∙ c .if7 .taken,
-    )
+returns-6 c = at-stop _ _ _ (omega arith) (omega arith) (sym (c .before .is-stop .ensures) ∙ c .if7 .taken)
 
 with-digit-requires : tie.Need-with-digit-requires
 with-digit-requires c κs =
@@ -103,31 +114,11 @@ with-digit-requires c κs =
     (omega arith, (digit, digit-least (a .header .time) (a .i - 8) (a .b) digit (time-byte (a .header) (a .i) (a .b) low high (start .pre .1))))
 
 returns-7 : tie.Need-returns-7
-unfolding enterHeader isStop
 returns-7 c =
-    let sixth = c .before .before .before .before in
-    simp (
-      ne-eqb _ _ (sixth .before .before .before .before .before .if1 .left),
-      ne-eqb _ _ (sixth .before .before .before .before .if2 .left),
-      ne-eqb _ _ (sixth .before .before .before .if3 .left),
-      ne-eqb _ _ (sixth .before .before .if4 .left),
-      ne-eqb _ _ (sixth .before .if5 .left),
-      le-leb _ _ (sixth .if6 .taken),
-      sym (c .before .before .before .is-stop .ensures) ∙ c .before .before .if7 .left,
-      c .with-digit .ensures,
-    )
+    at-digit _ _ _ (omega arith) (omega arith) (sym (c .before .before .before .is-stop .ensures) ∙ c .before .before .if7 .left) (c .with-digit .ensures)
 
 returns-8 : tie.Need-returns-8
-unfolding enterHeader
-returns-8 c =
-    simp (
-      ne-eqb _ _ (c .before .before .before .before .before .if1 .left),
-      ne-eqb _ _ (c .before .before .before .before .if2 .left),
-      ne-eqb _ _ (c .before .before .before .if3 .left),
-      ne-eqb _ _ (c .before .before .if4 .left),
-      ne-eqb _ _ (c .before .if5 .left),
-      lt-leb _ _ (c .if6 .left),
-    )
+returns-8 c = at-radar _ _ _ (omega arith)
 
 pub enter-header-spec : {M : Type 1} → statement M
 enter-header-spec =

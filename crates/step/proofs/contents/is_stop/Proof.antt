@@ -2,7 +2,7 @@
 use mathlib.Core.Bool.{false}
 use Rattle.texts.specs.StartBlock.{stopPlaces}
 use Rattle.texts.proofs.Tests.{either-in}
-use Rattle.step.specs.Meaning.{isStop}
+use Rattle.step.specs.Time.{isStop}
 use Rattle.step.proofs.contents.is_stop.Statement.{statement}
 use Rattle.step.proofs.contents.is_stop.Tie as tie
 

@@ -5,7 +5,7 @@ use borrow.Author.Needs.{needs}
 use borrow.Author.Tests.{eq-eqb, ne-eqb, le-leb, lt-leb}
 use Rattle.texts.specs.StartBlock.{isDigit}
 use Rattle.stream.specs.Contents.{timeTakes}
-use Rattle.step.specs.Meaning.{isStop}
+use Rattle.step.specs.Time.{isStop}
 use Rattle.step.proofs.contents.time_takes.Statement.{statement}
 use Rattle.step.proofs.contents.time_takes.Tie as tie
 

@@ -7,7 +7,7 @@ use borrow.Author.Needs.{needs}
 use borrow.Author.Tests.{ltb-true}
 use Rattle.texts.specs.Bytes.{isIn}
 use Rattle.text_laws.proofs.Rules.{tabled}
-use Rattle.step.specs.Meaning.{isStop, digitIndex}
+use Rattle.step.specs.Time.{isStop, digitIndex}
 use Rattle.step.proofs.contents.with_digit.Statement.{statement}
 use Rattle.step.proofs.contents.with_digit.Tie as tie
 

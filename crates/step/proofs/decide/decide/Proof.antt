@@ -5,7 +5,7 @@ use native.Mathlib.Omega.{arith}
 use borrow.Author.Needs.{needs}
 use borrow.Author.Tests.{eq-eqb, ne-eqb}
 use Rattle.step.specs.Decide.{decide, pushedState}
-use Rattle.step.specs.declared.state.State.{State}
+use Rattle.states.specs.declared.state.State.{State}
 use Rattle.step.proofs.decide.decide.Statement.{statement}
 use Rattle.step.proofs.decide.decide.Tie as tie
 

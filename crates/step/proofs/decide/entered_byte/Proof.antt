@@ -9,7 +9,7 @@ use Rattle.texts.specs.declared.header.Header.{Header}
 use Rattle.stream.specs.Contents.{takesByte, startTakes}
 use Rattle.stream.proofs.Instance.{start-long}
 use Rattle.step.specs.Decide.{enteredByte}
-use Rattle.step.proofs.KindLaws.{block-most}
+use Rattle.text_laws.proofs.KindTable.{block-most}
 use Rattle.step.proofs.decide.entered_byte.Statement.{statement}
 use Rattle.step.proofs.decide.entered_byte.Tie as tie
 

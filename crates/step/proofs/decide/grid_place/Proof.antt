@@ -1,11 +1,11 @@
 -- The number of a data text is 1 to 10. Assumes nothing.
-use mathlib.Core.Path.{_≡_, sym}
+use mathlib.Core.Path.{_≡_}
 use mathlib.Core.Bool.{false}
 use Prim.Native.Nat.{ℕ, _≤_, _<_}
 use native.Mathlib.Omega.{arith}
 use borrow.Author.Needs.{needs}
 use Rattle.texts.specs.Kinds.{isStartKind, isEndKind, textNumber, blockLength}
-use Rattle.step.proofs.KindLaws.{data-number, block-most}
+use Rattle.text_laws.proofs.KindTable.{data-number, block-most}
 use Rattle.step.proofs.decide.grid_place.Statement.{statement}
 use Rattle.step.proofs.decide.grid_place.Tie as tie
 

@@ -4,7 +4,7 @@ use native.Mathlib.Omega.{arith}
 use borrow.Author.Needs.{needs}
 use borrow.Author.Tests.{eq-eqb, ne-eqb, lt-ltb, le-ltb}
 use Rattle.step.specs.Decide.{textDecided}
-use Rattle.step.proofs.KindLaws.{block-most}
+use Rattle.text_laws.proofs.KindTable.{block-most}
 use Rattle.step.proofs.decide.text_decided.Statement.{statement}
 use Rattle.step.proofs.decide.text_decided.Tie as tie
 

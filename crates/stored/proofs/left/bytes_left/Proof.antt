@@ -7,10 +7,9 @@ use borrow.Author.Needs.{needs}
 use borrow.Author.Tests.{ne-eqb, not-true, not-false}
 use Rattle.texts.specs.Kinds.{isKind, blockLength}
 use Rattle.text_laws.proofs.Rules.{never}
-use Rattle.text_laws.proofs.KindTable.{no-kind-0}
+use Rattle.text_laws.proofs.KindTable.{no-kind-0, block-most}
 use Rattle.stream.specs.State.{State, isPossible}
 use Rattle.stream.proofs.Possible.{Shape, atFD, atPicture, inText, possible-facts}
-use Rattle.step.proofs.KindLaws.{block-most}
 use Rattle.stored.specs.Left.{impossible, unread, known, remainder}
 use Rattle.stored.proofs.left.bytes_left.Statement.{statement}
 use Rattle.stored.proofs.left.bytes_left.Tie as tie

@@ -8,11 +8,11 @@ use Rattle.stored.proofs.text.text_payload.Statement.{statement}
 use Rattle.stored.proofs.text.text_payload.Tie as tie
 use Rattle.stored.proofs.text.text_payload.Reads as reads
 use Rattle.stored.proofs.text.text_payload.Lts as lts
-use Rattle.stored.proofs.whole.is_undamaged_part.Reads as is-undamaged-part-reads
-use Rattle.texts.proofs.kinds.data_block_length.Reads as data-block-length-reads
-use Rattle.texts.proofs.kinds.data_texts.Reads as data-texts-reads
-use Rattle.texts.proofs.kinds.part_of_kind.Reads as part-of-kind-reads
-use Rattle.texts.proofs.modes.no_echo_of.Reads as no-echo-of-reads
+use Rattle.undamaged.proofs.whole.is_undamaged_part.Reads as is-undamaged-part-reads
+use Rattle.lengths.proofs.block.data_block_length.Reads as data-block-length-reads
+use Rattle.lengths.proofs.part.data_texts.Reads as data-texts-reads
+use Rattle.kinds.proofs.table.part_of_kind.Reads as part-of-kind-reads
+use Rattle.modes.proofs.status.no_echo_of.Reads as no-echo-of-reads
 
 returns : tie.Need-returns
 returns c = damaged _ _ (sym (c .before .before .is-undamaged-part .ensures) ∙ not-true _ (c .before .if1 .taken))

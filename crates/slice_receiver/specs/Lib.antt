@@ -1,0 +1,2 @@
+-- The bytes of a slice, one by one. Assumes nothing.
+pub mod Run

@@ -1,0 +1,13 @@
+-- The places of the time in a start block. Assumes nothing.
+use Prim.Native.Nat.{ℕ}
+use mathlib.Core.Bool.{Bool}
+use Rattle.texts.specs.Bytes.{isIn}
+use Rattle.texts.specs.StartBlock.{digitPlaces, stopPlaces}
+use Rattle.stream.specs.Contents.{indexIn}
+
+-- places of the time: stops, and the number of a digit. Notice 49, 4(1)(1-1)(d)(イ)
+unfoldable pub isStop : ℕ → Bool
+isStop i = isIn i stopPlaces
+
+unfoldable pub digitIndex : ℕ → ℕ
+digitIndex i = indexIn i digitPlaces

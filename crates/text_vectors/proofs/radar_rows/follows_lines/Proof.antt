@@ -1,0 +1,26 @@
+-- Nothing has to hold from turn to turn. The measure is what is left of the 22 bytes. Assumes nothing.
+use Prim.Native.Nat.{_-_}
+use borrow.Author.Needs.{needs}
+use Rattle.text_vectors.proofs.radar_rows.follows_lines.Statement.{statement}
+use Rattle.text_vectors.proofs.radar_rows.follows_lines.Tie as tie
+
+abbrev Inv-loop : tie.InvT-loop
+Inv-loop i₀ t2 i = Unit {0}
+
+abbrev μ-loop : tie.MeasureT-loop
+μ-loop i₀ t2 i = 22 - i
+
+pub follows-lines-spec : {M : Type 1} → statement M
+follows-lines-spec =
+    tie.close (
+    tie.spec
+    Inv-loop
+    μ-loop
+    (λ c. search needs)
+    (λ c. search needs)
+    (λ c. search needs)
+    (λ c κs. search needs)
+    (λ c. search needs)
+    (λ c. search needs)
+    (λ c. search needs)
+    (λ c. search needs))

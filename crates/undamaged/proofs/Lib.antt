@@ -1,0 +1,3 @@
+-- The laws and the proofs of the functions. Assumes nothing.
+pub mod Hearing
+pub mod Wholly
