@@ -2,14 +2,14 @@
 ghost use mathlib.Core.Path.{_≡_};
 ghost use Rattle.texts.specs.StartBlock.{isLeapYear, daysIn, isMoment};
 
-// Whether a year of the Gregorian calendar has a 29 February
+// Whether a year of the Gregorian calendar has a 29 February. Notice 49, 4(1)(1-1)(d)(イ)
 pub fn is_leap_year(year: u32) -> bool
     ensures { λ r. ⌜ r ≡ isLeapYear year ⌝ }
 {
     (year % 4 == 0) & (year % 100 != 0) | (year % 400 == 0)
 }
 
-// The days of a month; 31 where the number is no month
+// The days of a month; 31 where the number is no month. Notice 49, 4(1)(1-1)(d)(イ)
 pub fn days_in(year: u32, month: u32) -> u32
     ensures { λ r. ⌜ r ≡ daysIn year month ⌝ }
 {

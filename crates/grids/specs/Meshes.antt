@@ -49,21 +49,21 @@ pub data Answered : Type 0 where
   done : Answered
   refused : ℕ → Answered
 
--- The level of a mesh; refusals in the order 42, 43, 41
+-- The level of a mesh; refusals in the order 42, 43, 41. Notice 49, 4(1)(1-1)(d)(ウ)
 unfoldable pub meshLevel : List ℕ → ℕ → Answered
 meshLevel grid mesh =
     cond (not (isGrid grid)) (refused 42)
     (cond (not (isRead grid)) (refused 43)
     (cond (not (isMesh mesh)) (refused 41) (value (levelOf grid mesh))))
 
--- How many of the 40,000 meshes are at or above a level
+-- How many of the 40,000 meshes are at or above a level. Notice 49, 5(3)(3-1)
 unfoldable pub meshesFrom : List ℕ → ℕ → Answered
 meshesFrom grid level =
     cond (not (isGrid grid)) (refused 42)
     (cond (not (isRead grid)) (refused 43)
     (cond (not (isLevel level)) (refused 41) (value (countTo grid level meshes))))
 
--- Two grids laid over each other into a third, which any refusal leaves as it was
+-- Two grids laid over each other into a third, which any refusal leaves as it was. Notice 49, 4(1)(1-1)(d)(ウ)
 pub record Overlaid : Type 0 where
   pub answer : Answered
   pub grid : List ℕ

@@ -29,7 +29,7 @@ pub fn mesh_level(grid: &[u8], mesh: u32) -> Found
 }
 
 // How many meshes are at or above a level. The loop has no way out, so that the compiler can take
-// many bytes at a time
+// many bytes at a time. Notice 49, 5(3)(3-1)
 fn count_from(grid: &[u8], level: u8) -> u32
     requires { ⌜ length (now grid) ≤ 20000 ⌝ }
     ensures { λ r. ⌜ r ≡ countTo (now (grid .entry)) level (2 * length (now (grid .entry))) ⌝ }

@@ -8,7 +8,7 @@ use texts::header::Heading;
 ghost use mathlib.Core.Path.{_≡_};
 ghost use Rattle.texts.specs.Handed.{headingOf, isHeading, isHanded};
 
-// A header without its status bytes
+// A header without its status bytes. Notice 49, 4(1)(1-1)(c)(イ)
 pub fn heading_of(header: Header) -> Heading
     ensures { λ r. ⌜ r ≡ headingOf header ⌝ }
 {
@@ -22,7 +22,7 @@ pub fn heading_of(header: Header) -> Heading
     }
 }
 
-// Whether a heading keeps every rule of a start block (01, row 32)
+// Whether a heading keeps every rule of a start block (01, row 32). Notice 49, 4(1)(1-1)(c)(イ)
 pub fn is_heading(heading: Heading) -> bool
     ensures { λ r. ⌜ r ≡ isHeading heading ⌝ }
 {

@@ -1,4 +1,4 @@
-// Layer 1, headers: the rules of a header's fields, and of what a writer is handed.
+// Layer 1, headers: the rule of what a writer is handed.
 // Every function answers for every value of its parameters, by an equation with a definition of texts.
 
 pub mod handed; // headers and modes that a writer is handed

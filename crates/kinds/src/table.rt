@@ -33,13 +33,14 @@ pub fn text_of_kind(b: u8) -> u8
     }
 }
 
-// Whether a byte is a start kind, whether it is an end kind. Notice 49, 4(1)(1-1)(d)(イ)
+// Whether a byte is a start kind. Notice 49, 4(1)(1-1)(d)(イ)
 pub fn is_start_kind(kind: u8) -> bool
     ensures { λ r. ⌜ r ≡ isStartKind kind ⌝ }
 {
     is_kind(kind) & (text_of_kind(kind) == 0)
 }
 
+// Whether a byte is an end kind. Notice 49, 4(1)(1-1)(d)(イ)
 pub fn is_end_kind(kind: u8) -> bool
     ensures { λ r. ⌜ r ≡ isEndKind kind ⌝ }
 {

@@ -19,7 +19,8 @@ pub fn data_texts(part: u8, noecho: bool) -> u8
     0
 }
 
-// The length of a whole part; 0 where there is no such part
+// The length of a whole part; 0 where there is no such part.
+// Notice 49, 4(1)(1-1)(a), 4(1)(1-2)(a), 4(2)(a)
 pub fn part_length(part: u8, noecho: bool) -> usize
     ensures { λ r. ⌜ r ≡ partLength part noecho ⌝ }
 {
@@ -35,7 +36,8 @@ pub fn part_length(part: u8, noecho: bool) -> usize
     if part == 1 { 20190 } else { 491 }
 }
 
-// How many payload bytes a part carries; 0 where there is no such part
+// How many payload bytes a part carries; 0 where there is no such part.
+// Notice 49, 4(1)(1-1)(a), 4(1)(1-2)(a), 4(2)(a)
 pub fn payload_length(part: u8) -> usize
     ensures { λ r. ⌜ r ≡ payloadLength part ⌝ }
 {

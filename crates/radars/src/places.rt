@@ -41,7 +41,8 @@ pub fn is_mode_byte(radar: u8, b: u8) -> bool
     mode_of(b) != 0
 }
 
-// Whether a writer may be handed this mode for a radar, or for none (0)
+// Whether a writer may be handed this mode for a radar, or for none (0).
+// Notice 49, 4(1)(1-1)(d)(イ)
 pub fn is_mode_for(radar: u8, mode: u8) -> bool
     ensures { λ r. ⌜ r ≡ isModeFor radar mode ⌝ }
 {
@@ -51,7 +52,8 @@ pub fn is_mode_for(radar: u8, mode: u8) -> bool
     (1 <= mode) & (mode <= 3)
 }
 
-// Whether each radar has a mode, 1 to 3, and each place without a radar has none (0)
+// Whether each radar has a mode, 1 to 3, and each place without a radar has none (0).
+// Notice 49, 4(1)(1-1)(d)(イ)
 pub fn are_modes_for(radars: [u8; 8], modes: [u8; 8]) -> bool
     ensures { λ r. ⌜ r ≡ areModesFor radars modes ⌝ }
 {

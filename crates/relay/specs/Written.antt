@@ -86,7 +86,8 @@ pub record Sent : Type 0 where
 abbrev pub refuses : ℕ → List ℕ → Sent
 refuses n output = record { answer = refused n; output = output }
 
--- Rows 31 to 34 in order; otherwise the part's bytes stand at the front of the output, and the rest is untouched
+-- Rows 31 to 34 in order; otherwise the part's bytes stand at the front of the output, and the rest is untouched.
+-- Notice 49, 4(1)(1-1)(a), 4(1)(1-2)(a), 4(2)(a)
 unfoldable pub writes : ℕ → Heading → List ℕ → List ℕ → List ℕ → Sent
 writes p h modes payload output =
     let long = partLength p (writesNoEcho p payload) in

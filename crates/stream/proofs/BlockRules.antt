@@ -1,27 +1,27 @@
 -- Blocks as 01 states them, and as the receiver takes them byte by byte, are the same. Assumes nothing.
 use mathlib.Core.Path.{_≡_, refl, sym, ap, ap₂, _∙_, subst}
-use mathlib.Core.Logic.{_⊎_, inl, inr, _≢_, _↔_}
-use mathlib.Core.Bool.{Bool, true, false, cond, not, _&&_, _||_}
-use mathlib.Core.List.{List, [], _∷_, _++_, map}
+use mathlib.Core.Logic.{_↔_}
+use mathlib.Core.Bool.{Bool, true, false, not, _&&_, _||_}
+use mathlib.Core.List.{List, [], _∷_, map}
 use Prim.Native.Nat.{ℕ, zero, suc, _+_, _*_, _-_, _/_, _%_, _≤_, _<_}
 use native.Mathlib.Nat.{add-zero}
 use native.Mathlib.Omega.{arith}
-use lib.Dec.{eqb, leb, ltb, lit≤}
-use lib.ListN.{length, getD, take, drop, set}
+use lib.Dec.{eqb, lit≤}
+use lib.ListN.{length, getD, drop, set}
 use lib.Seq.{sets}
-use borrow.Author.Tests.{eqb-true, eqb-false, leb-true, eq-eqb, ne-eqb, not-true}
-use Rattle.texts.specs.Bytes.{_!_, bit, isIn, every, allOf}
+use borrow.Author.Tests.{eqb-true, leb-true, eq-eqb, not-true}
+use Rattle.texts.specs.Bytes.{_!_, isIn, every, allOf}
 use Rattle.texts.specs.Text.{FD}
 use Rattle.texts.specs.Pictures.{isPictureCode}
-use Rattle.texts.specs.Kinds.{isKind, isStartKind, isEndKind, isDataKind, partOf, textNumber, blockLength}
-use Rattle.texts.specs.StartBlock.{noEchoOf, modeOf, hasMode, isClockByte, clockOf, isTime, digitPlaces, stopPlaces, isDigit, digitsOf, isTimeText, timeTextOf, isRadarCode, follows, isRadarList, radarsOf, isStartBlock, headerOf, blankHeader}
-use Rattle.texts.specs.DataBlock.{isPayloadByte, payloadOf, isDataBlock}
+use Rattle.texts.specs.Kinds.{isKind, isStartKind, isEndKind, isDataKind, partOf, textNumber}
+use Rattle.texts.specs.StartBlock.{isClockByte, clockOf, isTime, digitPlaces, stopPlaces, isDigit, digitsOf, isTimeText, timeTextOf, isRadarCode, follows, radarsOf, isStartBlock, headerOf}
+use Rattle.texts.specs.DataBlock.{isPayloadByte}
 use Rattle.texts.specs.EndBlock.{radarPlaces, isModeByte, isEndBlock, modesOf, noModes}
 use Rattle.texts.specs.declared.header.Header.{Header}
 use Rattle.texts.proofs.Tests.{places, by-place}
 use Rattle.texts.proofs.Radars.{radars-by-place}
 use Rattle.text_laws.proofs.Rules.{by-test, never, and-split, and-join, neither, rule-at, every-at, every-in}
-use Rattle.text_laws.proofs.Blocks.{StartRules, start-rules, start-keeps, DataRules, data-rules, data-keeps, EndRules, end-rules, end-keeps}
+use Rattle.text_laws.proofs.Blocks.{StartRules, start-rules, start-keeps, EndRules, end-rules, end-keeps}
 use Rattle.stream.specs.Contents.{timeTakes, startTakes, begunHeader, enterHeader, endTakes, enterModes, enterGrid, takesByte}
 use Rattle.stream.proofs.Machine.{Eats, done, bite}
 use Rattle.stream.proofs.Instance.{Held, held, radar}

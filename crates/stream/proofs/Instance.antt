@@ -15,7 +15,7 @@ use Rattle.texts.specs.StartBlock.{modeOf, hasMode, isClockByte, stopPlaces, is
 use Rattle.texts.specs.DataBlock.{isPayloadByte}
 use Rattle.texts.specs.EndBlock.{isModeByte, noModes}
 use Rattle.texts.specs.declared.header.Header.{Header}
-use Rattle.text_laws.proofs.Rules.{by-test, never, and-split, by-if}
+use Rattle.text_laws.proofs.Rules.{by-test, by-if, ReadAs, reads, both-read, never, and-split}
 use Rattle.text_laws.proofs.KindTable.{kind-part, start-is-kind}
 use Rattle.text_laws.proofs.Payload.{payload-below}
 use Rattle.stream.specs.Seen.{push, endsOpening, dueByte}
@@ -65,72 +65,64 @@ machine s g = mk radar (s .seen) (s .place) (s .kind) (s .picture) (s .part) (s 
 abbrev pub out : Step → Out radar
 out o = say radar (o .answer) (machine (o .state) (o .grid))
 
--- A step that leaves what the machine does. A record, so that two tables are compared test by test, and `out` is written
--- out only where a test's answer stands
-record Means (x : Step) (y : Out radar) : Type 0 where
-  same : out x ≡ y
-
-means : {x : Step} → Means x (out x)
-means = record { same = refl }
-
-both : (c : Bool) {x y : Step} {x' y' : Out radar} → Means x x' → Means y y' → Means (cond c x y) (cond c x' y')
-both true p q = p
-both false p q = q
+-- a step that leaves what the machine does
+abbrev Means : Step → Out radar → Type 0
+Means = ReadAs out
 
 module _ (s : State) (g w : List ℕ) (b : ℕ) where
   opened-is : Means (opened s g w) (opens radar (machine s g) w)
   unfolding opened opens
-  opened-is = both (eqb (s .place) 0) means means
+  opened-is = both-read (eqb (s .place) 0) reads reads
 
   gap-is : Means (gapByte s g w b) (inGap radar (machine s g) w b)
   unfolding gapByte inGap
-  gap-is = both (eqb (s .part) 0) means (both (eqb b (dueByte (s .seen))) means means)
+  gap-is = both-read (eqb (s .part) 0) reads (both-read (eqb b (dueByte (s .seen))) reads reads)
 
   picture-is : Means (pictureByte s g w b) (atPicture radar (machine s g) w b)
   unfolding pictureByte atPicture
-  picture-is = both (isPictureCode b) means means
+  picture-is = both-read (isPictureCode b) reads reads
 
   kind-is : Means (kindByte s g w b) (atKind radar (machine s g) w b)
   unfolding kindByte atKind
   kind-is =
-      both (not (isKind b)) means
-      (both (isStartKind b) (both (eqb (s .part) 0) means means)
-      (both (eqb (s .part) 0) means
-      (both (not (eqb b (kindOf (s .part) (s .due)))) means
-      (both (eqb (s .picture) (s .header .picture)) means means))))
+      both-read (not (isKind b)) reads
+      (both-read (isStartKind b) (both-read (eqb (s .part) 0) reads reads)
+      (both-read (eqb (s .part) 0) reads
+      (both-read (not (eqb b (kindOf (s .part) (s .due)))) reads
+      (both-read (eqb (s .picture) (s .header .picture)) reads reads))))
 
   block-is : Means (blockByte s g w b) (inBlock radar (machine s g) w b)
   unfolding blockByte inBlock
-  block-is = both (takesByte (s .kind) (s .header) (s .place) b) means means
+  block-is = both-read (takesByte (s .kind) (s .header) (s .place) b) reads reads
 
   eor-is : Means (eorByte s g w b) (atEor radar (machine s g) w b)
   unfolding eorByte atEor
-  eor-is = both (eqb b EOR) means means
+  eor-is = both-read (eqb b EOR) reads reads
 
   check-is : Means (checkedByte s g w b) (atCheck radar (machine s g) w b)
   unfolding checkedByte atCheck
-  check-is = both (eqb b (s .check)) means means
+  check-is = both-read (eqb b (s .check)) reads reads
 
   last-is : Means (lastByte s g w b) (atLast radar (machine s g) w b)
   unfolding lastByte atLast
   last-is =
-      both (not (eqb b TPAD)) means
-      (both (isStartKind (s .kind)) means
-      (both (isEndKind (s .kind)) (both (endsWell (s .header) (s .modes)) means means) means))
+      both-read (not (eqb b TPAD)) reads
+      (both-read (isStartKind (s .kind)) reads
+      (both-read (isEndKind (s .kind)) (both-read (endsWell (s .header) (s .modes)) reads reads) reads))
 
   placed-is : Means (placedByte s g w b) (placed radar (machine s g) w b)
   unfolding placedByte placed
   placed-is =
-      both (eqb (s .place) 0) gap-is
-      (both (eqb (s .place) 1) picture-is
-      (both (eqb (s .place) 2) kind-is
-      (both (ltb (s .place) (blockLength (s .kind))) block-is
-      (both (eqb (s .place) (blockLength (s .kind))) eor-is
-      (both (eqb (s .place) (suc (blockLength (s .kind)))) check-is last-is)))))
+      both-read (eqb (s .place) 0) gap-is
+      (both-read (eqb (s .place) 1) picture-is
+      (both-read (eqb (s .place) 2) kind-is
+      (both-read (ltb (s .place) (blockLength (s .kind))) block-is
+      (both-read (eqb (s .place) (blockLength (s .kind))) eor-is
+      (both-read (eqb (s .place) (suc (blockLength (s .kind)))) check-is last-is)))))
 
 move-is : (s : State) (g : List ℕ) (b : ℕ) → Means (step s g b) (move radar (machine s g) b)
 unfolding step move
-move-is s g b = both (endsOpening (s .seen) b) (opened-is s g (push (s .seen) b) b) (placed-is s g (push (s .seen) b) b)
+move-is s g b = both-read (endsOpening (s .seen) b) (opened-is s g (push (s .seen) b) b) (placed-is s g (push (s .seen) b) b)
 
 pub step-is-move : (s : State) (g : List ℕ) (b : ℕ) → out (step s g b) ≡ move radar (machine s g) b
 step-is-move s g b = move-is s g b .same

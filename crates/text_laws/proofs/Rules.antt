@@ -21,6 +21,20 @@ pub by-if : {A : Type 0} (P : A → Type 0) (c : Bool) {x y : A} → (c ≡ true
 by-if P true f g = f refl
 by-if P false f g = g refl
 
+-- x is y when read by f. A record, so that two tables of tests are compared test by test, and f is written out only where a test's
+-- answer stands
+pub record ReadAs {A B : Type 0} (f : A → B) (x : A) (y : B) : Type 0 where
+  pub same : f x ≡ y
+
+pub reads : {A B : Type 0} {f : A → B} {x : A} → ReadAs f x (f x)
+reads = record { same = refl }
+
+pub both-read :
+    {A B : Type 0} {f : A → B} (c : Bool) {x y : A} {x' y' : B}
+    → ReadAs f x x' → ReadAs f y y' → ReadAs f (cond c x y) (cond c x' y')
+both-read true p q = p
+both-read false p q = q
+
 pub never : {P : Type 0} {t : Bool} → t ≡ false → t ≡ true → P
 never f h = absurd (true≢false (sym h ∙ f))
 

@@ -32,7 +32,7 @@ isEndBlock radars block =
     ∷ every (λ b. eqb b 0x00) (drop 11 block)
     ∷ [])
 
--- 01: a part's modes are those of its end block, by place, 0 where there is no radar
+-- 01: a part's modes are those of its end block, by place, 0 where there is no radar. Notice 49, 4(1)(1-1)(d)(イ)
 unfoldable pub modesOf : List ℕ → List ℕ
 modesOf block = map (λ i. modeOf (block ! (3 + i))) radarPlaces
 

@@ -10,17 +10,18 @@ use Rattle.texts.specs.EndBlock.{radarPlaces}
 use Rattle.texts.specs.declared.header.Heading.{Heading}
 use Rattle.texts.specs.declared.header.Header.{Header}
 
--- 01: the header without its status bytes
+-- 01: the header without its status bytes. Notice 49, 4(1)(1-1)(c)(イ)
 abbrev pub headingOf : Header → Heading
 headingOf h = record { time = h .time; radars = h .radars; clock = h .clock; picture = h .picture }
 
--- the mode of a radar is 1 to 3; 0 where there is no radar
+-- the mode of a radar is 1 to 3; 0 where there is no radar. Notice 49, 4(1)(1-1)(d)(イ)
 unfoldable pub isModeFor : ℕ → ℕ → Bool
 isModeFor radar m = cond (eqb radar 0) (eqb m 0) (leb 1 m && leb m 3)
 
 unfoldable pub areModesFor : List ℕ → List ℕ → Bool
 areModesFor radars modes = every (λ i. isModeFor (radars ! i) (modes ! i)) radarPlaces
 
+-- every rule of a start block (01, row 32). Notice 49, 4(1)(1-1)(c)(イ) and (d)(イ)
 unfoldable pub isHeading : Heading → Bool
 isHeading h =
     allOf (isPictureCode (h .picture) ∷ leb (h .clock) 16383 ∷ isTime (h .time) ∷ isRadarList (h .radars) ∷ [])

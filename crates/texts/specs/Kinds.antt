@@ -81,11 +81,12 @@ textLength block = block + 8
 unfoldable pub dataTexts : ℕ → Bool → ℕ
 dataTexts p noEcho = cond (eqb p 3) 1 (cond noEcho 0 (cond (eqb p 1) 10 (cond (eqb p 2) 1 0)))
 
--- The length of a whole part: start text, data texts, end text. 0 where there is no such part
+-- The length of a whole part: start text, data texts, end text. 0 where there is no such part.
+-- Notice 49, 4(1)(1-1)(a), 4(1)(1-2)(a), 4(2)(a)
 unfoldable pub partLength : ℕ → Bool → ℕ
 partLength p noEcho =
     cond (isPartNumber p) (textLength 32 + (dataTexts p noEcho * textLength (dataBlockLength p) + textLength 32)) 0
 
--- How many payload bytes a whole part carries: 20,000, 400 or 100
+-- How many payload bytes a whole part carries: 20,000, 400 or 100. Notice 49, 4(1)(1-1)(a), 4(1)(1-2)(a), 4(2)(a)
 unfoldable pub payloadLength : ℕ → ℕ
 payloadLength p = dataTexts p false * (dataBlockLength p - 3)

@@ -74,7 +74,7 @@ isPart p =
     ∷ eqb (modeOf (p .start ! 5)) (highest (modesOf (p .end)))
     ∷ [])
 
--- 01: an *undamaged part*
+-- 01: an *undamaged part*. Notice 49, 4(1)(1-1)(a), 4(1)(1-2)(a), 4(2)(a)
 pub record UndamagedPart (bytes : List ℕ) : Type 0 where
   pub part : Part
   pub rules : isPart part ≡ true
@@ -136,6 +136,7 @@ cutPart bytes =
       end = take 32 (drop (45 + count * (size + 8)) bytes);
     }
 
+-- whether bytes are an undamaged part. Notice 49, 4(1)(1-1)(a), 4(1)(1-2)(a), 4(2)(a)
 unfoldable pub isUndamagedPart : List ℕ → Bool
 isUndamagedPart bytes = same bytes (partBytes (cutPart bytes)) && isPart (cutPart bytes)
 

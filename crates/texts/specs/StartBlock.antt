@@ -46,7 +46,7 @@ clockOf high low = high * 128 + low
 unfoldable pub clockBytes : ℕ → List ℕ
 clockBytes clock = clock / 128 ∷ clock % 128 ∷ []
 
--- The Gregorian calendar
+-- The Gregorian calendar, for the time. Notice 49, 4(1)(1-1)(d)(イ)
 unfoldable pub isLeapYear : ℕ → Bool
 isLeapYear y = eqb (y % 4) 0 && not (eqb (y % 100) 0) || eqb (y % 400) 0
 
@@ -54,12 +54,12 @@ isLeapYear y = eqb (y % 4) 0 && not (eqb (y % 100) 0) || eqb (y % 400) 0
 unfoldable pub daysIn : ℕ → ℕ → ℕ
 daysIn y m = cond (eqb m 2) (cond (isLeapYear y) 29 28) (cond (isIn m (4 ∷ 6 ∷ 9 ∷ 11 ∷ [])) 30 31)
 
--- year, month, day, hour, minute: a date of years 0000 to 9999, hour 00 to 23, minute 00 to 59
+-- year, month, day, hour, minute: a date of years 0000 to 9999, hour 00 to 23, minute 00 to 59. Notice 49, 4(1)(1-1)(d)(イ)
 unfoldable pub isMoment : ℕ → ℕ → ℕ → ℕ → ℕ → Bool
 isMoment y m d h n =
     allOf (leb y 9999 ∷ leb 1 m ∷ leb m 12 ∷ leb 1 d ∷ leb d (daysIn y m) ∷ leb h 23 ∷ leb n 59 ∷ [])
 
--- The same of the twelve digits YYYYMMDDhhmm, each 0 to 9
+-- The same of the twelve digits YYYYMMDDhhmm, each 0 to 9. Notice 49, 4(1)(1-1)(d)(イ)
 unfoldable pub yearOf : List ℕ → ℕ
 yearOf ds = ds ! 0 * 1000 + ds ! 1 * 100 + ds ! 2 * 10 + ds ! 3
 
@@ -102,7 +102,7 @@ radarCodes =
 unfoldable pub isRadarCode : ℕ → Bool
 isRadarCode b = isIn b radarCodes
 
--- Radar codes, each above the one before it, and then only `00`
+-- Radar codes, each above the one before it, and then only `00`. Notice 49, 4(1)(1-1)(d)(イ)
 unfoldable pub rising : ℕ → List ℕ → Bool
 rising before [] = true
 rising before (r ∷ rs) = cond (eqb r 0) (every (λ b. eqb b 0) rs) (isRadarCode r && ltb before r && rising r rs)
@@ -111,7 +111,7 @@ rising before (r ∷ rs) = cond (eqb r 0) (every (λ b. eqb b 0) rs) (isRadarCod
 unfoldable pub isRadarList : List ℕ → Bool
 isRadarList rs = allOf (leb (length rs) 8 ∷ not (eqb (rs ! 0) 0) ∷ rising 0 rs ∷ [])
 
--- The same rule by place: the byte after a radar's byte is `00`, or a radar code above it
+-- The same rule by place: the byte after a radar's byte is `00`, or a radar code above it. Notice 49, 4(1)(1-1)(d)(イ)
 unfoldable pub follows : ℕ → ℕ → Bool
 follows before r = eqb r 0 || isRadarCode r && not (eqb before 0) && ltb before r
 

@@ -3,7 +3,7 @@ ghost use mathlib.Core.Path.{_≡_};
 ghost use Rattle.texts.specs.Text.{xorAll, checkByte};
 
 // The exclusive or over a block, worked out from its two halves; a block of one byte is its own
-// result, and an empty one gives 0.
+// result, and an empty one gives 0. Notice 49, 4(1)(1-1)(c)(ア)
 pub fn xor_all(block: &[u8]) -> u8
     ensures { λ r. ⌜ r ≡ xorAll (now (block .entry)) ⌝ }
 {

@@ -43,6 +43,7 @@ fn hear(grid: &mut [u8], bytes: &[u8]) -> Heard
 
 // Whether bytes are exactly one undamaged part. The kind of a part's end text stands 33 bytes before
 // its end; with it, header and length the part's first byte is settled.
+// Notice 49, 4(1)(1-1)(a), 4(1)(1-2)(a), 4(2)(a)
 pub fn is_undamaged_part(bytes: &[u8]) -> bool
     ensures { λ r. ⌜ r ≡ isUndamagedPart (now (bytes .entry)) ⌝ }
 {

@@ -61,7 +61,7 @@ fn write_taken(
 }
 
 // The writer. Refusals in order: 31 the part, 32 header or modes, 33 the payload, 34 the output's
-// length; each leaves the output as it was.
+// length; each leaves the output as it was. Notice 49, 4(1)(1-1)(a), 4(1)(1-2)(a), 4(2)(a)
 pub fn write_part(
     part: u8,
     heading: Heading,

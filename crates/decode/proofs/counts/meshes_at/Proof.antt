@@ -1,6 +1,5 @@
 -- Level 14 is the last; below it, those at or above the next level are taken off. Assumes nothing.
 use mathlib.Core.Path.{ap, _∙_}
-use native.Mathlib.Omega.{arith}
 use borrow.Author.Needs.{needs}
 use Rattle.grids.specs.Served.{found}
 use Rattle.decode.proofs.AtLevel.{at-top, at-less}
