@@ -1,21 +1,35 @@
-"""The lines that the program `write_parts` must print.
+"""The input of the program `write_parts`, and the lines that it must print for it.
 
+    python3 tests/write_parts.py --stream > crates/write_parts/stdin
     python3 tests/write_parts.py > crates/write_parts/stdout
 
-They are those of the models of 01's texts and receiver, tests/model, and of rows 31 to 34 of its table.
-The calls stand here and in the program, crates/write_parts/src. An output is all `AA` before the writer
-has it. A sum is Adler-32, begun at 0.
+The calls stand here alone. The input is calls, one behind the other. A call is what the writer is handed, of
+a number's two bytes the high one first:
 
-    wrote PART LENGTH SUM REST          LENGTH and SUM of what was written; REST bytes behind it are still
-                                        `AA`
-    took COUNT ANSWER                   from a slice call on what was written, until it is used up
-    held CONTENTS                       after answer 3: the header (12 digits of the time, 8 radars, clock,
-                                        picture code, mode, NO ECHO), 8 modes, the grid's sum
-    refused PART NUMBER LENGTH SUM      LENGTH and SUM of the whole output, which a refusal leaves as it was
+    byte 0            part
+    bytes 1 to 12     digits of the time
+    bytes 13 to 20    radars
+    bytes 21 and 22   clock
+    byte 23           picture code
+    bytes 24 to 31    modes
+    bytes 32 and 33   the output's length
+    bytes 34 and 35   the payload's length
+    from byte 36 on   the payload
 
-State and grid of the receiver go on from part to part, from fresh on.
+The output is all `AA` before the writer has it. What was written goes to a fresh receiver, by as many slice
+calls as that takes. The lines of a call, in decimal:
+
+    wrote LENGTH SUM          the length of what was written
+    took COUNT ANSWER         one for each slice call
+    held CONTENTS             after answer 3: header, modes, the grid's sum
+    refused NUMBER SUM        a row of 01's table, 31 to 34
+
+A sum is Adler-32, begun at 0. SUM is over the whole output after the call: what was written, and behind it, or
+after a refusal everywhere, `AA`. The lines are those of the models of 01's texts and receiver, tests/model,
+and of rows 31 to 34 of its table. Every part that is written must give what was handed in.
 """
 
+import struct
 import sys
 import zlib
 from pathlib import Path
@@ -26,11 +40,7 @@ import texts
 from receiver import Receiver
 from texts import INTENSITY, QUALITY, TOP, Heading
 
-LINES = []
-
-
-def line(word, *numbers):
-    LINES.append(" ".join([word, *map(str, map(int, numbers))]))
+CALLS, LINES = [], []
 
 
 def adler(data):
@@ -91,20 +101,22 @@ def refusal(part, heading, modes, payload, length):
     return 0
 
 
-# One call: the bytes written. `wanted`, by hand, is a row's number or the length of what is written.
-# "the rest of the output is untouched"; a refusal leaves "output unchanged, 0 written"
+# One call: its bytes, its line, and the bytes written. `wanted`, by hand, is a row's number or the length of
+# what is written. "the rest of the output is untouched"; a refusal leaves "output unchanged, 0 written"
 def attempt(wanted, part, heading, modes, payload, length):
+    head = struct.pack(">B12B8BHB", part, *heading.time, *heading.radars, heading.clock, heading.picture)
+    CALLS.append(head + struct.pack(">8BHH", *modes, length, len(payload)) + payload)
     output = bytearray(b"\xAA" * length)
     row = refusal(part, heading, modes, payload, length)
     if row != 0:
         assert row == wanted, f"row {wanted} by hand, {row} by the model"
-        line("refused", part, row, length, adler(output))
+        LINES.append(f"refused {row} {adler(output)}")
         return b""
     data = texts.written_part(part, heading, modes, payload)
     assert len(data) == wanted and texts.undamaged_part(data)
     output[:wanted] = data
-    line("wrote", part, wanted, adler(output[:wanted]), output[wanted:].count(0xAA))
-    assert output[wanted:] == b"\xAA" * (length - wanted)
+    assert len(output) == length
+    LINES.append(f"wrote {wanted} {adler(output)}")
     return data
 
 
@@ -116,47 +128,51 @@ def usual(wanted, part, payload, length):
 
 # ---- Parts, read back
 
-# "looping .. until it is used up"; `answers` are by hand
-def read_back(receiver, data, answers):
-    found, at = [], 0
+# The line for what a receiver holds
+def held(receiver):
+    header = receiver.header
+    numbers = [*header.time, *header.radars, header.clock, header.picture, header.mode, int(header.noecho)]
+    return " ".join(map(str, ["held", *numbers, *receiver.modes, adler(receiver.grid)]))
+
+
+# Slice calls of a fresh receiver on what was written, until it is used up, and their lines. Header, modes and
+# payload are those handed in; `mode`, `noecho` and `answers` are by hand
+def read_back(data, heading, modes, payload, mode, noecho, answers):
+    receiver, found, at = Receiver(), [], 0
     while at < len(data):
         answer, count = receiver.slice(data, at)
         at += count
         found.append(answer)
-        line("took", count, answer)
-        if answer == 3:
-            h = receiver.header
-            line("held", *h.time, *h.radars, h.clock, h.picture, h.mode, h.noecho, *receiver.modes,
-                 adler(receiver.grid))
+        LINES.append(f"took {count} {answer}")
+    LINES.append(held(receiver))
     assert found == answers, f"answers {answers} by hand, {found} by the model"
-
-
-# Header, modes and payload read back are those handed in, with `mode` and `noecho` by hand
-def part_lines(receiver, part, echoes, size, length, wanted, mode, answers):
-    payload = payload_of(part, size) if echoes else bytes(size)
-    noecho = wanted == 80
-    read_back(receiver, usual(wanted, part, payload, length), answers)
-    assert texts.heading_of(receiver.header) == HEADINGS[part] and receiver.modes == MODES[part]
+    assert texts.heading_of(receiver.header) == heading and receiver.modes == modes
     assert receiver.header.mode == mode and receiver.header.noecho == noecho
     assert receiver.grid == payload.ljust(texts.GRID, b"\0")
+
+
+# One part, with all the bytes that it may carry or with zeros alone
+def through(part, echoes, size, length, wanted, mode, answers):
+    payload = payload_of(part, size) if echoes else bytes(size)
+    data = usual(wanted, part, payload, length)
+    read_back(data, HEADINGS[part], MODES[part], payload, mode, wanted == 80, answers)
 
 
 def parts():
     assert len(set(payload_of(INTENSITY, 20_000))) == 225 and max(payload_of(INTENSITY, 20_000)) == 0xEE
     assert set(payload_of(TOP, 400)) == set(range(9)) and set(payload_of(QUALITY, 100)) == set(range(0x41))
-    receiver = Receiver()
     for length in (20_190, 20_200):
-        part_lines(receiver, INTENSITY, True, 20_000, length, 20_190, 1, [1, *(2,) * 10, 3])
+        through(INTENSITY, True, 20_000, length, 20_190, 1, [1, *(2,) * 10, 3])
     for length in (80, 20_200):
-        part_lines(receiver, INTENSITY, False, 20_000, length, 80, 1, [1, 3])
+        through(INTENSITY, False, 20_000, length, 80, 1, [1, 3])
     for length in (491, 600):
-        part_lines(receiver, TOP, True, 400, length, 491, 2, [1, 2, 3])
+        through(TOP, True, 400, length, 491, 2, [1, 2, 3])
     for length in (80, 600):
-        part_lines(receiver, TOP, False, 400, length, 80, 2, [1, 3])
+        through(TOP, False, 400, length, 80, 2, [1, 3])
     # "Applying NO ECHO to quality" is a misreading
     for echoes in (True, False):
         for length in (191, 300):
-            part_lines(receiver, QUALITY, echoes, 100, length, 191, 3, [1, 2, 3])
+            through(QUALITY, echoes, 100, length, 191, 3, [1, 2, 3])
 
 
 # ---- Refusals
@@ -172,8 +188,7 @@ def row_31():
 def row_32():
     good = Heading(digits("198708151215"), eight("A3 A5"), 16_383, 0xD4)
     good_modes = eight("02 01")
-    calls = [({}, good_modes)]
-    calls += [({"picture": code}, good_modes) for code in (0x00, 0xCD, 0xFD)]
+    calls = [({"picture": code}, good_modes) for code in (0x00, 0xCD, 0xFD)]
     calls += [({"clock": clock}, good_modes) for clock in (16_384, 65_535)]
     # No leap day, month 13, day 0, hour 24, minute 60, a digit above 9
     times = ["199902291215", "198713151215", "198708001215", "198708152415", "198708151260"]
@@ -185,8 +200,10 @@ def row_32():
     # Missing at one radar, at all; where there is no radar; not 1 to 3
     lists = ("02", "", "02 01 01", "02 01 00 00 00 00 00 03", "04 01", "02 FF")
     calls += [({}, eight(modes)) for modes in lists]
-    for i, (fields, modes) in enumerate(calls):
-        attempt(191 if i == 0 else 32, QUALITY, good._replace(**fields), modes, bytes(100), 191)
+    data = attempt(191, QUALITY, good, good_modes, bytes(100), 191)
+    read_back(data, good, good_modes, bytes(100), 2, False, [1, 2, 3])
+    for fields, modes in calls:
+        attempt(32, QUALITY, good._replace(**fields), modes, bytes(100), 191)
 
 
 # Each output long enough
@@ -232,4 +249,7 @@ if __name__ == "__main__":
     row_33()
     row_34()
     order()
-    print("\n".join(LINES))
+    if sys.argv[1:] == ["--stream"]:
+        sys.stdout.buffer.write(b"".join(CALLS))
+    else:
+        print("\n".join(LINES))

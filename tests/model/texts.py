@@ -75,6 +75,16 @@ def is_kind(b):
     return b in KINDS
 
 
+# The table's column "Start"
+def is_start_kind(b):
+    return b in [start for start, _, _, _, _ in TABLE.values()]
+
+
+# The table's column "End"
+def is_end_kind(b):
+    return b in [end for _, _, _, end, _ in TABLE.values()]
+
+
 # The row of 01's table that has the kind
 def part_of_kind(b):
     return KINDS[b][0] if b in KINDS else 0

@@ -1,43 +1,32 @@
-// Every byte: its codes, its kind, its mode bits, and the parts in whose payload it may stand.
-use crate::print::answer;
-use crate::print::byte;
-use crate::print::digit;
-use crate::print::end_line;
-use crate::print::number16;
-use crate::print::space;
-use crate::print::word;
-use texts::payload::is_payload_byte;
+// Functions of one byte: codes, kinds, lengths, status bytes and modes.
+use codes::table::is_picture_code;
+use codes::table::is_radar_code;
+use kinds::table::is_end_kind;
+use kinds::table::is_kind;
+use kinds::table::is_start_kind;
+use kinds::table::part_of_kind;
+use kinds::table::text_of_kind;
+use lengths::block::block_length;
+use lengths::block::data_block_length;
+use lengths::part::payload_length;
+use modes::status::mode_byte;
+use modes::status::mode_of;
+use modes::status::no_echo_of;
 
-// Parts 0 to 4, of which 0 and 4 are none
-fn payload_digits(b: u8) {
-    space();
-    digit(is_payload_byte(0, b));
-    digit(is_payload_byte(1, b));
-    digit(is_payload_byte(2, b));
-    digit(is_payload_byte(3, b));
-    digit(is_payload_byte(4, b));
-}
-
-fn line(b: u8) {
-    word(b"byte");
-    byte(b);
-    answer(codes::table::is_picture_code(b));
-    answer(codes::table::is_radar_code(b));
-    answer(kinds::table::is_kind(b));
-    byte(kinds::table::part_of_kind(b));
-    byte(kinds::table::text_of_kind(b));
-    number16(lengths::block::block_length(b));
-    answer(modes::status::no_echo_of(b));
-    byte(modes::status::mode_of(b));
-    byte(modes::status::mode_byte(b));
-    payload_digits(b);
-    end_line();
-}
-
-pub fn lines() {
-    let mut b: u16 = 0;
-    while b < 256 {
-        line(b as u8);
-        b += 1;
+pub fn result(asked: u8, b: u8) -> u64 {
+    match asked {
+        1 => is_picture_code(b) as u64,
+        2 => is_radar_code(b) as u64,
+        3 => is_kind(b) as u64,
+        4 => is_start_kind(b) as u64,
+        5 => is_end_kind(b) as u64,
+        6 => part_of_kind(b) as u64,
+        7 => text_of_kind(b) as u64,
+        8 => block_length(b) as u64,
+        9 => data_block_length(b) as u64,
+        10 => payload_length(b) as u64,
+        11 => no_echo_of(b) as u64,
+        12 => mode_of(b) as u64,
+        _ => mode_byte(b) as u64,
     }
 }

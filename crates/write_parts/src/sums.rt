@@ -13,16 +13,3 @@ pub fn adler(bytes: &[u8]) -> u64 {
     }
     high * 65536 + low
 }
-
-// How many of the bytes are `b`
-pub fn count(bytes: &[u8], b: u8) -> u64 {
-    let mut n: u64 = 0;
-    let mut i = 0;
-    while i < bytes.len() {
-        if bytes[i] == b {
-            n += 1;
-        }
-        i += 1;
-    }
-    n
-}

@@ -7,10 +7,10 @@ use Rattle.write_parts.proofs.read_back.read_back.Statement.{statement}
 use Rattle.write_parts.proofs.read_back.read_back.Tie as tie
 
 abbrev Inv-loop : tie.InvT-loop
-Inv-loop grid₀ bytes s₀ at₀ grid s at = (at ≤ length bytes) × (length grid ≡ length grid₀)
+Inv-loop bytes grid₀ s₀ at₀ grid s at = (at ≤ length bytes) × (length grid ≡ 20000)
 
 abbrev μ-loop : tie.MeasureT-loop
-μ-loop grid₀ bytes s₀ at₀ grid s at = length bytes - at
+μ-loop bytes grid₀ s₀ at₀ grid s at = length bytes - at
 
 pub read-back-spec : {M : Type 1} → statement M
 read-back-spec =
@@ -18,6 +18,8 @@ read-back-spec =
     (tie.spec
     Inv-loop
     μ-loop
+    (λ c κs. search needs)
+    (λ c. search needs)
     (λ c. search needs)
     (λ c. search needs)
     (λ c. search needs)
@@ -27,10 +29,9 @@ read-back-spec =
     (λ c κs. search needs)
     (λ c. search needs)
     (λ c. search needs)
-    (λ c. search needs)
-    (λ c κs. search needs)
     (λ c κs. search needs)
     (λ c. search needs)
+    (λ c κs. search needs)
     (λ c. search needs)
     (λ c. search needs)
     (λ c. search needs))
