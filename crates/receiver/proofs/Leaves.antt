@@ -8,22 +8,24 @@ use lib.Dec.{eqb, ltb}
 use lib.ListN.{length}
 use Rattle.texts.specs.Text.{EOR, TPAD}
 use Rattle.texts.specs.Pictures.{isPictureCode}
-use Rattle.texts.specs.Kinds.{isKind, isStartKind, isEndKind, kindOf, blockLength}
+use Rattle.texts.specs.Kinds.{isStartKind, isEndKind, blockLength}
 use Rattle.texts.specs.Part.{zeros, gridLength}
 use Rattle.stream.specs.Seen.{endsOpening, dueByte}
-use Rattle.stream.specs.Contents.{takesByte}
 use Rattle.stream.specs.Receiver.{step, endsWell}
 use Rattle.stream.specs.Calls.{answered}
 use Rattle.text_laws.proofs.Rules.{by-if}
 use Rattle.last_bytes.specs.AsNumber.{seenOf, pushSeen, pushCount}
-use Rattle.step.specs.Decide.{withinText, betweenTexts, droppedState, drops, quietly, openedText, gapDecided, pictureDecided, startingText, kindDecided, advanced, enteredByte, blockDecided, eorDecided, checkDecided, lastDecided, textDecided, pushedState, decide}
+use Rattle.moves.specs.Moves.{goesOn, begins, drops, quietly}
+use Rattle.inside.specs.Inside.{enteredHere, blockDecided, eorDecided, checkDecided, begunPart, endedPart, takenText, lastDecided, textDecided}
+use Rattle.step.specs.Decide.{onward, openedText, gapDecided, pictureDecided, startDecided, kindRow, kindDecided, pushedState, decide}
 use Rattle.last_bytes.proofs.SeenLaws.{push-seen}
 use Rattle.states.specs.Meaning.{stateOf, numberOf, applied, appliedTo}
 use Rattle.states.specs.declared.state.State.{State}
 use Rattle.states.specs.declared.grid.Effect.{Effect}
 use Rattle.states.specs.declared.grid.Effect.the-variants.{Keep, Clear, Enter}
-use Rattle.step.specs.declared.decide.Decided.{Decided}
-use Rattle.step.proofs.Same.{meaning, step-same}
+use Rattle.moves.specs.declared.decided.Decided.{Decided}
+use Rattle.inside.proofs.Same.{meaning}
+use Rattle.step.proofs.Same.{step-same}
 use Rattle.receiver.specs.Returned.{replyOf, isQuiet}
 
 either : {A : Type 0} (P : A → Type 0) (c : Bool) {x y : A} → P x → P y → P (cond c x y)
@@ -42,52 +44,51 @@ module _ (s : State) (b : ℕ) where
 
   -- a drop; its number is not 0
   lost : (n : ℕ) → eqb n 0 ≡ false → Leaf (drops t n)
-  unfolding drops droppedState numberOf isQuiet replyOf pushedState
+  unfolding drops begins numberOf isQuiet replyOf pushedState
   lost n e = (rw e, refl, refl, refl)
 
   opened-leaf : Leaf (openedText t)
-  unfolding openedText quietly withinText droppedState numberOf isQuiet replyOf pushedState
+  unfolding openedText goesOn begins numberOf isQuiet replyOf pushedState
   opened-leaf = either Leaf (eqb (s .frame .place) 0) (refl, refl, refl, refl) (refl, refl, refl, refl)
 
   gap-leaf : Leaf (gapDecided t (dueByte (seenOf (s .seen) (s .frame .count))) b)
-  unfolding gapDecided quietly betweenTexts numberOf isQuiet replyOf pushedState
+  unfolding gapDecided goesOn numberOf isQuiet replyOf pushedState
   gap-leaf =
       either Leaf (eqb (s .frame .part) 0) (refl, refl, refl, refl)
       (either Leaf (eqb b (dueByte (seenOf (s .seen) (s .frame .count)))) (refl, refl, refl, refl) (lost 12 refl))
 
   picture-leaf : Leaf (pictureDecided t b)
-  unfolding pictureDecided quietly withinText numberOf isQuiet replyOf pushedState
+  unfolding pictureDecided goesOn onward numberOf isQuiet replyOf pushedState
   picture-leaf = either Leaf (isPictureCode b) (refl, refl, refl, refl) (lost 13 refl)
 
-  kind-leaf : Leaf (kindDecided t b)
-  unfolding kindDecided quietly withinText startingText numberOf isQuiet replyOf pushedState
-  kind-leaf =
-      either Leaf (not (isKind b)) (lost 14 refl)
-      (either Leaf (isStartKind b) (either Leaf (eqb (s .frame .part) 0) (refl, refl, refl, refl) (refl, refl, refl, refl))
-      (either Leaf (eqb (s .frame .part) 0) (lost 16 refl)
-      (either Leaf (not (eqb b (kindOf (s .frame .part) (s .frame .due)))) (lost 16 refl)
-      (either Leaf (eqb (s .frame .picture) (s .header .picture)) (refl, refl, refl, refl) (lost 17 refl)))))
+  start-leaf : Leaf (startDecided t b)
+  unfolding startDecided begins numberOf isQuiet replyOf pushedState
+  start-leaf = either Leaf (eqb (s .frame .part) 0) (refl, refl, refl, refl) (refl, refl, refl, refl)
 
-  entered-leaf : Leaf (enteredByte t b)
-  unfolding enteredByte quietly advanced withinText numberOf isQuiet replyOf pushedState
-  entered-leaf =
-      either Leaf (isStartKind (s .frame .kind)) (refl, refl, refl, refl)
-      (either Leaf (isEndKind (s .frame .kind)) (refl, refl, refl, refl) (refl, refl, refl, refl))
+  on-leaf : Leaf (quietly t (onward (t .frame) 3 b (t .frame .picture) b))
+  unfolding goesOn onward numberOf isQuiet replyOf pushedState
+  on-leaf = (refl, refl, refl, refl)
+
+  kind-leaf : Leaf (kindDecided t b)
+  unfolding kindDecided pushedState
+  kind-leaf =
+      either Leaf (isStartKind b) start-leaf
+      (by-if Leaf (eqb (kindRow (t .frame) (t .header .picture) b) 0) (λ _. on-leaf) (λ e. lost (kindRow (t .frame) (t .header .picture) b) e))
 
   block-leaf : Leaf (blockDecided t b)
-  unfolding blockDecided pushedState
-  block-leaf = either Leaf (takesByte (s .frame .kind) (s .header) (s .frame .place) b) entered-leaf (lost 18 refl)
+  unfolding blockDecided goesOn numberOf isQuiet replyOf pushedState
+  block-leaf = either Leaf (enteredHere t b .kept) (refl, refl, refl, refl) (lost 18 refl)
 
   eor-leaf : Leaf (eorDecided t b)
-  unfolding eorDecided quietly advanced withinText numberOf isQuiet replyOf pushedState
+  unfolding eorDecided goesOn numberOf isQuiet replyOf pushedState
   eor-leaf = either Leaf (eqb b EOR) (refl, refl, refl, refl) (lost 19 refl)
 
   check-leaf : Leaf (checkDecided t b)
-  unfolding checkDecided quietly withinText numberOf isQuiet replyOf pushedState
+  unfolding checkDecided goesOn numberOf isQuiet replyOf pushedState
   check-leaf = either Leaf (eqb b (s .frame .check)) (refl, refl, refl, refl) (lost 20 refl)
 
   last-leaf : Leaf (lastDecided t b)
-  unfolding lastDecided betweenTexts numberOf isQuiet replyOf pushedState
+  unfolding lastDecided begunPart endedPart takenText goesOn numberOf isQuiet replyOf pushedState
   last-leaf =
       either Leaf (not (eqb b TPAD)) (lost 21 refl)
       (either Leaf (isStartKind (s .frame .kind)) (refl, refl, refl, refl)

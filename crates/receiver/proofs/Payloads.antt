@@ -20,7 +20,10 @@ use Rattle.stream.specs.Receiver.{_⊕_}
 use Rattle.stream.proofs.Opening.{only-FD}
 use Rattle.last_bytes.specs.AsNumber.{seenOf, pushSeen, pushCount}
 use Rattle.states.specs.Meaning.{stateOf}
-use Rattle.step.specs.Decide.{withinText, advanced, enteredByte, blockDecided, textDecided, pushedState, decide}
+use Rattle.moves.specs.Moves.{goesOn}
+use Rattle.contents.specs.Entered.{isTaken, enters, entered}
+use Rattle.inside.specs.Inside.{blockDecided, textDecided}
+use Rattle.step.specs.Decide.{pushedState, decide}
 use Rattle.states.specs.declared.state.Frame.{Frame}
 use Rattle.states.specs.declared.state.State.{State}
 use Rattle.states.specs.declared.answer.Answer.the-variants.{Quiet}
@@ -39,7 +42,7 @@ module _ (s : State) (place check seen count b : ℕ)
   pub paid-step :
       decide (paid s place check seen count) b
       ≡ record { next = paid s (place + 1) (check ⊕ b) (pushSeen seen b) (pushCount count); answer = Quiet; effect = Enter (spot (s .frame .kind) place) }
-  unfolding decide pushedState textDecided blockDecided takesByte enteredByte advanced withinText paid
+  unfolding decide pushedState textDecided blockDecided entered isTaken enters takesByte goesOn paid
   paid-step =
       simp (
         only-FD (seenOf seen count) b (λ e. omega (arith, e, payload-below _ b rule)),
@@ -47,6 +50,7 @@ module _ (s : State) (place check seen count b : ℕ)
         ne-eqb place 1 (omega (arith, three)),
         ne-eqb place 2 (omega (arith, three)),
         lt-ltb place (blockLength (s .frame .kind)) long,
+        le-leb 3 place three,
         start,
         end,
         rule,

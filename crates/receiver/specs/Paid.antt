@@ -7,7 +7,7 @@ use Rattle.texts.specs.Kinds.{isKind, kindOf, dataBlockLength}
 use Rattle.texts.specs.DataBlock.{isPayloadByte}
 use Rattle.states.specs.declared.state.Frame.{Frame}
 use Rattle.states.specs.declared.state.State.{State}
-use Rattle.step.specs.Decide.{frame}
+use Rattle.moves.specs.Moves.{frame}
 
 -- a data text of the open part is under way, the one that is due; it is inside its payload, five bytes are seen, and this byte keeps
 -- the payload's rule. Notice 49, 4(1)(1-1)(c)(エ), 4(1)(1-2)(c)(エ), 4(2)(c)(エ)

@@ -1,9 +1,8 @@
 -- What a call of the code returned, in the terms of `stream`'s calls. Assumes nothing.
 use Prim.Native.Nat.{ℕ}
 use mathlib.Core.Bool.{Bool, true, false}
-use mathlib.Core.List.{List, [], _∷_}
+use mathlib.Core.List.{List}
 use Rattle.stream.specs.Calls.{Reply, answered, refused, Received}
-use Rattle.last_bytes.specs.AsNumber.{pushSeen}
 use Rattle.states.specs.Meaning.{stateOf}
 use Rattle.states.specs.declared.state.State.{State}
 use Rattle.states.specs.declared.answer.Answer.{Answer}
@@ -26,11 +25,6 @@ returned r g = record { reply = replyOf (r .answer); count = r .count; state = s
 -- a refusal: the state as it was, and nothing taken
 abbrev pub refusal : State → ℕ → Got
 refusal s n = record { state = s; answer = Refused n; count = 0 }
-
--- the number that holds the bytes seen, after these bytes
-unfoldable pub seenAfter : ℕ → List ℕ → ℕ
-seenAfter v [] = v
-seenAfter v (b ∷ bytes) = seenAfter (pushSeen v b) bytes
 
 -- answer 0
 unfoldable pub isQuiet : Answer → Bool

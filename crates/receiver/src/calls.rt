@@ -8,9 +8,9 @@
 use crate::payload::is_payload_here;
 use crate::payload::paid_state;
 use last_bytes::seen::pushed;
+use possible::ranges::is_possible;
 use states::answer::Answer;
 use states::grid::apply;
-use states::possible::is_possible;
 use states::state::State;
 use step::decide::decide;
 ghost use mathlib.Core.Path.{_≡_};
@@ -18,7 +18,8 @@ ghost use mathlib.Core.List.{_∷_, []};
 ghost use lib.ListN.{take};
 ghost use Rattle.stream.specs.Calls.{byteCall};
 ghost use Rattle.states.specs.Meaning.{stateOf};
-ghost use Rattle.receiver.specs.Returned.{returned, refusal, seenAfter};
+ghost use Rattle.tally.specs.Behind.{seenAfter};
+ghost use Rattle.receiver.specs.Returned.{returned, refusal};
 
 // What a call returns: the state, the answer and how many bytes it took
 pub struct Got {

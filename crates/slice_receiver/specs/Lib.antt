@@ -1,2 +1,2 @@
--- The bytes of a slice, one by one. Assumes nothing.
-pub mod Run
+-- The stretches that the slice call takes at once, in the code's terms. Assumes nothing.
+pub mod Stretch

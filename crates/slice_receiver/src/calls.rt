@@ -1,18 +1,23 @@
 // The slice call (01, "The receiver"). How its contract leads to demand 3 stands in `receiver`, beside
 // the byte call.
-use crate::ahead::past_stretch;
+use edges::ahead::edge_ahead;
+use payloads::ahead::payload_ahead;
+use possible::ranges::is_possible;
 use receiver::calls::Got;
 use receiver::calls::refused;
+use runs::reach::Reached;
 use states::answer::Answer;
 use states::grid::apply;
-use states::possible::is_possible;
 use states::state::State;
 use step::decide::decide;
 ghost use mathlib.Core.Path.{_≡_};
-ghost use lib.ListN.{take};
+ghost use lib.ListN.{length, take};
 ghost use Rattle.stream.specs.Calls.{sliceCall};
+ghost use Rattle.tally.specs.Behind.{seenAfter};
 ghost use Rattle.states.specs.Meaning.{stateOf};
-ghost use Rattle.receiver.specs.Returned.{returned, seenAfter, isQuiet};
+ghost use Rattle.receiver.specs.Returned.{returned, isQuiet};
+ghost use Rattle.runs.specs.Run.{run, reached};
+ghost use Rattle.slice_receiver.specs.Stretch.{ran, stretch};
 
 // Whether an answer is 0
 fn is_quiet(a: Answer) -> bool
@@ -28,6 +33,55 @@ fn is_quiet(a: Answer) -> bool
     }
 }
 
+// Past the stretch that begins here: bytes between texts and a whole start or end text, or payload
+fn past_stretch(s: State, grid: &mut [u8], bytes: &[u8]) -> Reached
+    ensures { λ r. ⌜ reached r (now (grid .exit)) ≡ run s (now (grid .entry)) (take (stretch s (now (grid .entry)) (now (bytes .entry))) (now (bytes .entry))) 0 ⌝ }
+{
+    let f = s.frame;
+    if f.place == 0 {
+        return edge_ahead(s, bytes);
+    }
+    payload_ahead(s, grid, bytes)
+}
+
+// The bytes of the slice, in stretches where they begin and else one by one, up to and with the first
+// that is answered other than 0
+fn take_bytes(state: State, grid: &mut [u8], bytes: &[u8]) -> Got
+    requires { ⌜ length (now grid) ≡ 20000 ⌝ }
+    ensures { λ r. ⌜ ran r (now (grid .exit)) ≡ run state (now (grid .entry)) (now (bytes .entry)) 0 ⌝ }
+{
+    let first = past_stretch(state, grid, bytes);
+    let mut s = first.state;
+    let mut i = first.at;
+    while i < bytes.len() {
+        let b = bytes[i];
+        let d = decide(s, b);
+        let effect = d.effect;
+        apply(grid, effect, b);
+        s = d.next;
+        let answer = d.answer;
+        i += 1;
+        if !is_quiet(answer) {
+            return Got {
+                state: s,
+                answer,
+                count: i,
+            };
+        }
+        let f = s.frame;
+        if (f.place == 3) | (f.place == 0) {
+            let on = past_stretch(s, grid, &bytes[i..]);
+            s = on.state;
+            i += on.at;
+        }
+    }
+    Got {
+        state: s,
+        answer: Answer::Quiet,
+        count: i,
+    }
+}
+
 // The slice call: bytes up to and with the first that is answered other than 0
 pub fn slice_call(state: State, grid: &mut [u8], bytes: &[u8]) -> Got
     ensures { λ r. ⌜ returned r (now (grid .exit)) ≡ sliceCall (stateOf state) (now (grid .entry)) (now (bytes .entry)) ⌝ }
@@ -39,35 +93,5 @@ pub fn slice_call(state: State, grid: &mut [u8], bytes: &[u8]) -> Got
     if !is_possible(state) {
         return refused(state, 2);
     }
-    let first = past_stretch(state, grid, bytes, 0);
-    let mut s = first.state;
-    let mut i = first.at;
-    while i < bytes.len() {
-        let b = bytes[i];
-        let d = decide(s, b);
-        let effect = d.effect;
-        apply(grid, effect, b);
-        let next = d.next;
-        let answer = d.answer;
-        i += 1;
-        if !is_quiet(answer) {
-            return Got {
-                state: next,
-                answer,
-                count: i,
-            };
-        }
-        s = next;
-        let f = s.frame;
-        if (f.place == 3) | (f.place == 0) {
-            let on = past_stretch(s, grid, bytes, i);
-            s = on.state;
-            i = on.at;
-        }
-    }
-    Got {
-        state: s,
-        answer: Answer::Quiet,
-        count: i,
-    }
+    take_bytes(state, grid, bytes)
 }

@@ -1,16 +1,10 @@
 -- What the code's state, answers and effects on the grid mean. Assumes nothing.
-use Prim.Native.Nat.{ℕ, _+_}
-use mathlib.Core.Bool.{Bool, cond, _&&_}
-use mathlib.Core.List.{List, [], _∷_}
-use lib.Dec.{eqb, leb}
+use Prim.Native.Nat.{ℕ}
+use mathlib.Core.List.{List}
 use lib.ListN.{length, set}
-use Rattle.texts.specs.Bytes.{allOf}
-use Rattle.texts.specs.Pictures.{isPictureCode}
-use Rattle.texts.specs.Kinds.{isKind, isStartKind, kindOf, blockLength}
 use Rattle.texts.specs.Part.{zeros, gridLength}
 use Rattle.stream.specs.State
 use Rattle.last_bytes.specs.AsNumber.{seenOf}
-use Rattle.states.specs.declared.state.Frame.{Frame}
 use Rattle.states.specs.declared.state.State.{State}
 use Rattle.states.specs.declared.answer.Answer.{Answer}
 use Rattle.states.specs.declared.answer.Answer.the-variants.{Quiet, Begun, Taken, Complete, Dropped, Refused}
@@ -31,20 +25,6 @@ stateOf s =
       header = s .header;
       modes = s .modes;
     }
-
--- place, kind and picture code fit each other and the part open: what isPossible asks of them
-unfoldable pub frameFits : Frame → Bool
-frameFits f =
-    cond (eqb (f .kind) 0)
-    (cond (eqb (f .place) 0) (eqb (f .picture) 0 && eqb (f .check) 0)
-    (cond (eqb (f .place) 1) (eqb (f .picture) 0) (eqb (f .place) 2 && isPictureCode (f .picture))))
-    (allOf (
-    leb 3 (f .place)
-    ∷ leb (f .place) (blockLength (f .kind) + 2)
-    ∷ isPictureCode (f .picture)
-    ∷ isKind (f .kind)
-    ∷ cond (eqb (f .part) 0) (isStartKind (f .kind)) (eqb (f .kind) (kindOf (f .part) (f .due)))
-    ∷ []))
 
 -- 01's number of an answer; a refusal's is that of its row
 unfoldable pub numberOf : Answer → ℕ

@@ -1,5 +1,4 @@
 // Layer 2: the receiver's state, and what stands beside it in a call.
 pub mod state; // the state, and the fresh one
-pub mod possible; // the ranges that refusal 2 names
 pub mod answer; // answers, and their numbers
 pub mod grid; // what a byte does to the grid

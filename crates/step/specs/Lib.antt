@@ -1,3 +1,2 @@
 -- What the code decides about a byte, in its own terms. Assumes nothing.
-pub mod Time
 pub mod Decide

@@ -1,3 +1,4 @@
 // Layer 2: what one byte does to the receiver, without the grid.
-pub mod contents; // block bytes: their rules, and where they enter
+mod opening; // the opening, and the bytes between texts
+mod head; // picture code and kind
 pub mod decide; // what one byte does

@@ -1,6 +1,6 @@
 // Bytes left in the text under way.
 use lengths::block::block_length;
-use states::possible::is_possible;
+use possible::ranges::is_possible;
 use states::state::State;
 ghost use Rattle.states.specs.Meaning.{stateOf};
 ghost use Rattle.stored.specs.Left.{IsLeft};

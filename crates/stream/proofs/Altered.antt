@@ -21,7 +21,7 @@ use Rattle.text_laws.proofs.Rules.{by-test, never, by-if}
 use Rattle.text_laws.proofs.Framing.{altered-length, altered-parts, altered-xor}
 use Rattle.stream.specs.Seen.{push, endsOpening, dueByte}
 use Rattle.stream.specs.Receiver.{_⊕_}
-use Rattle.stream.proofs.Machine.{Rules, Machine, Out, mk, say, lost, new, opens, inGap, atPicture, begins, atKind, inBlock, atEor, atCheck, atLast, placed, move, run, Eats, done, bite, block, most, text, Open, begun, more, Whole, whole}
+use Rattle.stream.proofs.Machine.{Rules, Machine, Out, mk, say, lost, new, opens, inGap, atPicture, atKind, inBlock, atEor, atCheck, atLast, placed, move, run, Eats, done, bite, block, most, text, Open, begun, more, Whole, whole}
 use Rattle.stream.proofs.Opening.{only-FD, only-STX, differs, opening-seen, control-opens, pushes, seenControl, seenOpening, seenKind}
 use Rattle.stream.proofs.Steps.{Laws, Free, free0, free1, xor-cons, xor-nil, cancel-left, cancel-right, move-seen, move-block, move-eor, move-check, move-last}
 use Rattle.stream.proofs.WayBack.{checkAt3, checked, picture-not-FD, kind-not-FD, take-byte, take-eor, take-check, seenCheck, take-picture, take-start, take-last}

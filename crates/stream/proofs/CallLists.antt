@@ -2,7 +2,6 @@
 -- Assumes nothing.
 use mathlib.Core.Path.{_≡_, refl, sym, ap, ap₂, _∙_, subst}
 use mathlib.Core.Logic.{_≢_}
-use mathlib.Core.Bool.{not}
 use mathlib.Core.List.{List, [], _∷_, _++_, append-assoc, append-nil, map}
 use Prim.Native.Nat.{ℕ, zero, suc, _+_}
 use native.Mathlib.Omega.{arith}
@@ -13,7 +12,7 @@ use Rattle.texts.specs.Part.{gridLength}
 use Rattle.text_laws.proofs.Rules.{by-if}
 use Rattle.stream.specs.State.{State, fresh, emptyGrid}
 use Rattle.stream.specs.Receiver.{step}
-use Rattle.stream.specs.Calls.{answered, refused, Received, refuses, judged, byteCall, feed, sliceCall, Request, byte, slice, Call, onGrid, elsewhere, ask, number, spread, After, start, add, next, after, received, singly, answersOf, stateAfter, gridAfter}
+use Rattle.stream.specs.Calls.{answered, Received, refuses, judged, byteCall, feed, sliceCall, Request, byte, slice, Call, onGrid, elsewhere, ask, number, spread, After, start, add, next, after, received, singly, answersOf, stateAfter, gridAfter}
 use Rattle.stream.specs.Demand3.{SliceTaken}
 use Rattle.stream.proofs.Possible.{Possible, possible-keeps, step-kept, fresh-possible, grid-long}
 

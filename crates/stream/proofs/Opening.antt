@@ -7,7 +7,7 @@ use Prim.Native.Nat.{ℕ}
 use lib.Dec.{eqb}
 use borrow.Author.Tests.{ne-eqb}
 use Rattle.texts.specs.Bytes.{_!_, same}
-use Rattle.texts.specs.Text.{LPAD, SYN, DLE, STX, FD, opening}
+use Rattle.texts.specs.Text.{LPAD, SYN, DLE, STX, FD}
 use Rattle.text_laws.proofs.Rules.{by-test, same-eq}
 use Rattle.stream.specs.Seen.{push, openingBack, endsOpening}
 

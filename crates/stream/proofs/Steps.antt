@@ -12,7 +12,7 @@ use Rattle.texts.specs.Text.{SYN, STX, FD, EOR, TPAD, xorAll, checkByte}
 use Rattle.texts.proofs.Xor.{xor-assoc, xor-cancel-left, xor-cancel-right, xorAll-append}
 use Rattle.stream.specs.Seen.{push, endsOpening, dueByte}
 use Rattle.stream.specs.Receiver.{_⊕_}
-use Rattle.stream.proofs.Machine.{Rules, Machine, Out, mk, opens, inGap, atPicture, atKind, inBlock, atEor, atCheck, atLast, placed, move, run, Quietly, still, hush, Eats, block, text}
+use Rattle.stream.proofs.Machine.{Rules, Machine, Out, mk, opens, inGap, atPicture, atKind, inBlock, atEor, atCheck, atLast, placed, move, run, Quietly, still, hush, Eats}
 use Rattle.text_laws.proofs.Rules.{by-if}
 
 -- the running check byte

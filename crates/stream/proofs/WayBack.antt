@@ -13,7 +13,7 @@ use Rattle.texts.specs.Text.{STX, FD, EOR, TPAD, controlA, xorAll, checkByte}
 use Rattle.text_laws.proofs.Rules.{by-test, never, by-if}
 use Rattle.stream.specs.Seen.{push, endsOpening}
 use Rattle.stream.specs.Receiver.{_⊕_}
-use Rattle.stream.proofs.Machine.{Rules, Machine, Out, mk, say, opens, atPicture, atKind, inBlock, atEor, atCheck, atLast, placed, move, run, Quietly, still, hush, Eats, done, bite, block, most, text}
+use Rattle.stream.proofs.Machine.{Rules, Machine, Out, mk, say, opens, atPicture, atKind, inBlock, atEor, atCheck, atLast, placed, move, run, Quietly, still, hush, Eats, done, bite, block, most}
 use Rattle.stream.proofs.Opening.{only-FD, only-STX, control-opens, pushes, seenControl, seenOpening, seenKind}
 use Rattle.stream.proofs.Steps.{Laws, xor-cons, xor-nil, check-is, run-append, quiet-run, quiet-append, move-seen, move-block, move-eor, move-check, move-last}
 

@@ -9,7 +9,7 @@ use Rattle.texts.specs.Text.{FD}
 use Rattle.texts.specs.Part.{gridLength, StartText, UndamagedPart, AlteredTo, partHeader, partModes, gridOf}
 use Rattle.stream.specs.State.{State}
 use Rattle.stream.specs.Receiver.{step}
-use Rattle.stream.specs.Calls.{answered, refused, Received, refuses, Request, byte, slice, ask, number, spread, Call, After, received, singly, answersOf, stateAfter, gridAfter}
+use Rattle.stream.specs.Calls.{answered, Received, refuses, Request, byte, slice, ask, number, spread, Call, After, received, singly, answersOf, stateAfter, gridAfter}
 
 -- A slice call takes bytes up to and with the first that is answered other than 0: the last byte taken has the call's answer,
 -- those before it 0, and all bytes are taken where the answer is 0. State and grid are those after the bytes taken

@@ -11,8 +11,8 @@ use lib.Dec.{eqb, ltb}
 use lib.ListN.{length, take, drop, length-append, length-take, length-drop, List·getD-append}
 use lib.Seq.{getD-append-add, getD-drop, getD-take, take-suc}
 use borrow.Author.Tests.{eqb-true, ltb-true, ltb-false}
-use Rattle.texts.specs.Bytes.{_!_, bit, isIn, every}
-use Rattle.texts.specs.Text.{LPAD, SYN, DLE, FD, STX, EOR, TPAD, controlA, controlB, opening, textOf}
+use Rattle.texts.specs.Bytes.{_!_, bit, isIn}
+use Rattle.texts.specs.Text.{LPAD, SYN, DLE, FD, STX, controlA, controlB, opening, textOf}
 use Rattle.texts.specs.Pictures.{isPictureCode, pictureCodes}
 use Rattle.texts.specs.Kinds.{isKind, isStartKind, isDataKind, isEndKind, partOf, textNumber, kinds}
 use Rattle.texts.specs.StartBlock.{modeOf, hasMode, isClockByte, isTimeText, timeTextOf, digitPlaces, stopPlaces, isDigit, isRadarCode, radarCodes, rising, isRadarList, radarsOf}

@@ -15,9 +15,10 @@ use Rattle.last_bytes.specs.AsNumber.{pushSeen}
 use Rattle.states.specs.Meaning.{stateOf, appliedTo}
 use Rattle.step.specs.Decide.{decide}
 use Rattle.states.specs.declared.state.State.{State}
-use Rattle.step.specs.declared.decide.Decided.{Decided}
+use Rattle.moves.specs.declared.decided.Decided.{Decided}
 use Rattle.states.specs.declared.answer.Answer.the-variants.{Quiet}
-use Rattle.receiver.specs.Returned.{returned, replyOf, seenAfter}
+use Rattle.receiver.specs.Returned.{returned, replyOf}
+use Rattle.tally.specs.Behind.{seenAfter}
 use Rattle.receiver.specs.Paid.{paid, isPayloadHere}
 use Rattle.receiver.proofs.Leaves.{decide-leaf, same-step, applied-here}
 use Rattle.receiver.proofs.Payloads.{here-has, short-here, possible-here, decide-here}

@@ -1,79 +1,65 @@
 -- Each way out is a case of the definition. Assumes nothing.
-use mathlib.Core.Path.{sym, subst, _∙_}
-use Prim.Native.Nat.{_≤_}
-use native.Mathlib.Omega.{arith}
+use mathlib.Core.Path.{sym, _∙_}
 use borrow.Author.Needs.{needs}
 use borrow.Author.Tests.{eq-eqb, ne-eqb}
-use Rattle.step.specs.Decide.{decide, pushedState}
-use Rattle.states.specs.declared.state.State.{State}
+use Rattle.step.specs.Decide.{decide}
 use Rattle.step.proofs.decide.decide.Statement.{statement}
 use Rattle.step.proofs.decide.decide.Tie as tie
 
 returns : tie.Need-returns
 unfolding decide
 returns c =
-    simp (
-      c .opened-text .ensures,
-      sym (c .before .before .ends-opening .ensures) ∙ c .before .if1 .taken,
-      c .before .before .before .pushed-state .ensures,
-    )
+    let test = c .before in
+    simp (c .opened-text .ensures, sym (test .before .ends-opening .ensures) ∙ test .if1 .taken, test .before .before .pushed-state .ensures)
 
 returns-2 : tie.Need-returns-2
 unfolding decide
 returns-2 c =
-    let first = c .before .before .before .before in
+    let place = c .before .before in
+    let test = place .before in
     simp (
       c .gap-decided .ensures,
       c .before .due-byte .ensures,
-      eq-eqb _ _ (c .before .before .if2 .taken),
-      sym (first .before .ends-opening .ensures) ∙ first .if1 .left,
-      first .before .before .pushed-state .ensures,
+      eq-eqb _ _ (place .match .keys1),
+      sym (test .before .ends-opening .ensures) ∙ test .if1 .left,
+      test .before .before .pushed-state .ensures,
     )
 
 returns-3 : tie.Need-returns-3
 unfolding decide
 returns-3 c =
-    let first = c .before .before .before .before .before in
+    let test = c .before .before in
     simp (
       c .picture-decided .ensures,
-      eq-eqb _ _ (c .before .if3 .taken),
-      ne-eqb _ _ (c .before .before .before .if2 .left),
-      sym (first .before .ends-opening .ensures) ∙ first .if1 .left,
-      first .before .before .pushed-state .ensures,
+      c .before .match .keys2,
+      sym (test .before .ends-opening .ensures) ∙ test .if1 .left,
+      test .before .before .pushed-state .ensures,
     )
 
 returns-4 : tie.Need-returns-4
 unfolding decide
 returns-4 c =
-    let first = c .before .before .before .before .before .before .before in
+    let test = c .before .before in
     simp (
       c .kind-decided .ensures,
-      eq-eqb _ _ (c .before .if4 .taken),
-      ne-eqb _ _ (c .before .before .before .if3 .left),
-      ne-eqb _ _ (c .before .before .before .before .before .if2 .left),
-      sym (first .before .ends-opening .ensures) ∙ first .if1 .left,
-      first .before .before .pushed-state .ensures,
+      c .before .match .keys3,
+      sym (test .before .ends-opening .ensures) ∙ test .if1 .left,
+      test .before .before .pushed-state .ensures,
     )
 
 returns-5 : tie.Need-returns-5
 unfolding decide
 returns-5 c =
-    let first = c .before .before .before .before .before .before .before in
+    let test = c .before .before in
+    let r = c .before .match .rest in
     simp (
       c .text-decided .ensures,
-      ne-eqb _ _ (c .before .if4 .left),
-      ne-eqb _ _ (c .before .before .before .if3 .left),
-      ne-eqb _ _ (c .before .before .before .before .before .if2 .left),
-      sym (first .before .ends-opening .ensures) ∙ first .if1 .left,
-      first .before .before .pushed-state .ensures,
+      ne-eqb _ _ (r .0 .0 .1),
+      ne-eqb _ _ (r .0 .1),
+      ne-eqb _ _ (r .1),
+      sym (test .before .ends-opening .ensures) ∙ test .if1 .left,
+      test .before .before .pushed-state .ensures,
     )
-
-text-decided-requires : tie.Need-text-decided-requires
-unfolding pushedState
-text-decided-requires c κs =
-    let pushed = c .before .before .before .before .before .before .before .before in
-    subst (λ (t : State). 3 ≤ t .frame .place) (sym (pushed .pushed-state .ensures))
-    (omega (arith, c .if4 .left, c .before .before .if3 .left, c .before .before .before .before .if2 .left))
 
 pub decide-spec : {M : Type 1} → statement M
 decide-spec =
@@ -85,10 +71,10 @@ decide-spec =
     returns
     (λ c κs. search needs)
     (λ c κs. search needs)
+    (λ c κs. search needs)
+    (λ c κs. search needs)
+    (λ c κs. search needs)
     returns-2
-    (λ c κs. search needs)
     returns-3
-    (λ c κs. search needs)
     returns-4
-    text-decided-requires
     returns-5)

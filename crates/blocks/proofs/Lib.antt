@@ -1,2 +1,0 @@
--- The laws of whole blocks, and the proofs of the functions beside them. Assumes nothing.
-pub mod Rules

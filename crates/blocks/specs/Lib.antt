@@ -1,2 +1,0 @@
--- What reading a whole block gives. Assumes nothing.
-pub mod Read

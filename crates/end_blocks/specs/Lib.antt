@@ -1,0 +1,2 @@
+-- What reading a whole end block gives. Assumes nothing.
+pub mod Read

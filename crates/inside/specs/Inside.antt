@@ -1,0 +1,70 @@
+-- What a byte of a text whose kind has been read does, in the code's terms. Each definition here is one of `stream`'s Receiver,
+-- row for row; proofs/Same shows that they are the same. State s has the byte among its bytes seen already. Assumes nothing.
+use Prim.Native.Nat.{ℕ, _+_}
+use mathlib.Core.Bool.{cond, not}
+use lib.Dec.{eqb, ltb}
+use Rattle.texts.specs.Text.{EOR, TPAD}
+use Rattle.texts.specs.Kinds.{isStartKind, isEndKind, partOf, textNumber, blockLength}
+use Rattle.texts.specs.EndBlock.{noModes}
+use Rattle.stream.specs.Receiver.{_⊕_, firstDue, nextDue, endsWell}
+use Rattle.states.specs.declared.state.Frame.{Frame}
+use Rattle.states.specs.declared.state.State.{State}
+use Rattle.states.specs.declared.answer.Answer.the-variants.{Quiet, Begun, Taken, Complete}
+use Rattle.states.specs.declared.grid.Effect.the-variants.{Keep, Clear}
+use Rattle.moves.specs.Moves.{frame, state, goesOn, drops, quietly}
+use Rattle.moves.specs.declared.decided.Decided.{Decided}
+use Rattle.contents.specs.Entered.{entered}
+use Rattle.contents.specs.declared.byte.Entered.{Entered}
+
+-- one place on in the text, with this check byte; and between texts, with this part and due text
+abbrev pub advanced : Frame → ℕ → Frame
+advanced f check = frame (f .place + 1) (f .kind) (f .picture) (f .part) (f .due) check (f .count)
+
+abbrev pub between : Frame → ℕ → ℕ → Frame
+between f part due = frame 0 0 0 part due 0 (f .count)
+
+-- a block byte from byte 3 on. Row 18. Notice 49, 4(1)(1-1)(c)(イ) to (エ), 4(1)(1-2)(c)(エ), 4(2)(c)(エ)
+abbrev pub enteredHere : State → ℕ → Entered
+enteredHere s b = entered (s .frame .kind) (s .header) (s .modes) (s .frame .place) b
+
+abbrev pub byEntered : State → ℕ → Entered → Decided
+byEntered s b e =
+    cond (e .kept)
+    (goesOn (state (s .seen) (s .frame) (e .header) (e .modes)) (advanced (s .frame) (s .frame .check ⊕ b)) Quiet (e .effect))
+    (drops s 18)
+
+unfoldable pub blockDecided : State → ℕ → Decided
+blockDecided s b = byEntered s b (enteredHere s b)
+
+-- rows 19 and 20. Notice 49, 4(1)(1-1)(c)(ア)
+unfoldable pub eorDecided : State → ℕ → Decided
+eorDecided s b = cond (eqb b EOR) (quietly s (advanced (s .frame) (s .frame .check ⊕ b))) (drops s 19)
+
+unfoldable pub checkDecided : State → ℕ → Decided
+checkDecided s b = cond (eqb b (s .frame .check)) (quietly s (advanced (s .frame) (s .frame .check))) (drops s 20)
+
+-- answer 1, part begun; answer 3, complete, and row 22; answer 2, data text taken. Notice 49, 4(1)(1-1)(d)(イ)
+unfoldable pub begunPart : State → Decided
+begunPart s =
+    let part = partOf (s .frame .kind) in
+    goesOn (state (s .seen) (s .frame) (s .header) noModes) (between (s .frame) part (firstDue part (s .header))) Begun Clear
+
+unfoldable pub endedPart : State → Decided
+endedPart s = cond (endsWell (s .header) (s .modes)) (goesOn s (between (s .frame) 0 0) Complete Keep) (drops s 22)
+
+unfoldable pub takenText : State → Decided
+takenText s =
+    goesOn s (between (s .frame) (s .frame .part) (nextDue (s .frame .part) (textNumber (s .frame .kind)))) Taken Keep
+
+-- the last byte, by kind. Row 21. Notice 49, 4(1)(1-1)(c)(ア)
+unfoldable pub lastDecided : State → ℕ → Decided
+lastDecided s b =
+    cond (not (eqb b TPAD)) (drops s 21)
+    (cond (isStartKind (s .frame .kind)) (begunPart s) (cond (isEndKind (s .frame .kind)) (endedPart s) (takenText s)))
+
+-- by place
+unfoldable pub textDecided : State → ℕ → Decided
+textDecided s b =
+    cond (ltb (s .frame .place) (blockLength (s .frame .kind))) (blockDecided s b)
+    (cond (eqb (s .frame .place) (blockLength (s .frame .kind))) (eorDecided s b)
+    (cond (eqb (s .frame .place) (blockLength (s .frame .kind) + 1)) (checkDecided s b) (lastDecided s b)))

@@ -1,0 +1,23 @@
+-- What `stream` asks of a possible state, of the code's frame. Assumes nothing.
+use Prim.Native.Nat.{_+_}
+use mathlib.Core.Bool.{Bool, cond, _&&_}
+use mathlib.Core.List.{[], _∷_}
+use lib.Dec.{eqb, leb}
+use Rattle.texts.specs.Bytes.{allOf}
+use Rattle.texts.specs.Pictures.{isPictureCode}
+use Rattle.texts.specs.Kinds.{isKind, isStartKind, kindOf, blockLength}
+use Rattle.states.specs.declared.state.Frame.{Frame}
+
+-- place, kind and picture code fit each other and the part open: what isPossible asks of them
+unfoldable pub frameFits : Frame → Bool
+frameFits f =
+    cond (eqb (f .kind) 0)
+    (cond (eqb (f .place) 0) (eqb (f .picture) 0 && eqb (f .check) 0)
+    (cond (eqb (f .place) 1) (eqb (f .picture) 0) (eqb (f .place) 2 && isPictureCode (f .picture))))
+    (allOf (
+    leb 3 (f .place)
+    ∷ leb (f .place) (blockLength (f .kind) + 2)
+    ∷ isPictureCode (f .picture)
+    ∷ isKind (f .kind)
+    ∷ cond (eqb (f .part) 0) (isStartKind (f .kind)) (eqb (f .kind) (kindOf (f .part) (f .due)))
+    ∷ []))

@@ -1,0 +1,2 @@
+-- The bytes of a slice, one by one, in the code's terms. Assumes nothing.
+pub mod Run

@@ -1,0 +1,12 @@
+-- The test is the definition. Assumes nothing.
+use mathlib.Core.Path.{refl}
+use Rattle.texts.specs.StartBlock.{isDigit}
+use Rattle.start_blocks.proofs.read.is_digit.Statement.{statement}
+use Rattle.start_blocks.proofs.read.is_digit.Tie as tie
+
+returns : tie.Need-returns
+unfolding isDigit
+returns c = refl
+
+pub is-digit-spec : {M : Type 1} → statement M
+is-digit-spec = tie.close (tie.spec returns)

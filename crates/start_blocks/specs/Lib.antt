@@ -1,0 +1,2 @@
+-- What reading a whole start block gives. Assumes nothing.
+pub mod Read

@@ -1,0 +1,31 @@
+-- What reading a whole start block gives: its header, where the block keeps every rule. Assumes nothing.
+use Prim.Native.Nat.{ℕ}
+use mathlib.Core.Bool.{Bool, true, false, cond}
+use mathlib.Core.List.{List, [], _∷_}
+use lib.Dec.{eqb}
+use Rattle.texts.specs.Bytes.{_!_, allOf}
+use Rattle.texts.specs.Text.{FD}
+use Rattle.texts.specs.Pictures.{isPictureCode}
+use Rattle.texts.specs.Kinds.{isStartKind}
+use Rattle.texts.specs.StartBlock.{hasMode, isClockByte, isStartBlock, headerOf, blankHeader}
+use Rattle.start_blocks.specs.declared.read.StartRead.{StartRead}
+
+-- a start block's header, all 0 where the block breaks a rule. Notice 49, 4(1)(1-1)(c)(イ) and (d)(イ)
+abbrev pub brokenStart : StartRead
+brokenStart = record { kept = false; header = blankHeader }
+
+unfoldable pub startRead : List ℕ → StartRead
+startRead block = cond (isStartBlock block) (record { kept = true; header = headerOf block }) brokenStart
+
+-- the rules of a start block's bytes 0 to 7
+unfoldable pub startFront : List ℕ → Bool
+startFront block =
+    allOf (
+    eqb (block ! 0) FD
+    ∷ isPictureCode (block ! 1)
+    ∷ isStartKind (block ! 2)
+    ∷ eqb (block ! 3) 0x00
+    ∷ hasMode (block ! 5)
+    ∷ isClockByte (block ! 6)
+    ∷ isClockByte (block ! 7)
+    ∷ [])

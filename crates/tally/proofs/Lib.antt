@@ -1,0 +1,2 @@
+-- Laws of what many bytes come to.
+pub mod Tallies
