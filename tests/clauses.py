@@ -3,8 +3,8 @@
     python3 tests/clauses.py
 
 Every function, type and definition whose comment names a clause of the notice must be named on the page; every
-function and definition that the page names must exist. Prints how many there are, or what is missing, and then
-ends with status 1.
+function and definition that the page names must exist, and where the page names its crate, in that crate.
+Prints how many there are, or what is missing, and then ends with status 1.
 """
 
 import re
@@ -34,6 +34,13 @@ def named():
     return {name for name in names if len(name) > 2 or name == "FD"}
 
 
+# (crate, name) where the page has a crate before its names, as in "`step`: `opening::at_first`, `opened_text`"
+def placed():
+    for row in PAGE.splitlines():
+        for crate, names in re.findall(r"`(\w+)`: ([^;|]*)", row):
+            yield from ((crate, re.split(r"::|\.", name)[-1]) for name in re.findall(r"`([\w.:]+)`", names))
+
+
 def main():
     items = [*declared("crates/*/src/**/*.rt", "//", CODE), *declared("crates/*/specs/*.antt", "--", SPEC)]
     governed = [(path, name) for path, name, clause in items if clause]
@@ -41,6 +48,8 @@ def main():
     known = {name for _, name, _ in items} | {path.parent.name for path in ROOT.glob("crates/*/src")}
     modules = {path.stem for path in ROOT.glob("crates/*/s*/**/*.*")}
     missing += [f"the page names {name}, which is not there" for name in sorted(named() - known - modules)]
+    there = {(path.parts[1], name) for path, name, _ in items}
+    missing += [f"the page names {name} in {crate}, which has none" for crate, name in sorted(set(placed()) - there)]
     print("\n".join(missing) or f"{len(governed)} functions and definitions under clauses, all on the page")
     sys.exit(1 if missing else 0)
 
