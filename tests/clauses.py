@@ -4,6 +4,7 @@
 
 Every function, type and definition whose comment names a clause of the notice must be named on the page; every
 function and definition that the page names must exist, and where the page names its crate, in that crate.
+A function that is proved equal to a definition, and that definition, both name a clause or neither does.
 Prints how many there are, or what is missing, and then ends with status 1.
 """
 
@@ -41,6 +42,18 @@ def placed():
             yield from ((crate, re.split(r"::|\.", name)[-1]) for name in re.findall(r"`([\w.:]+)`", names))
 
 
+# (file, function, definition) for each contract that says what is returned by one definition; `every` is a word
+# of lists, which no clause governs
+def equal():
+    for path in sorted(ROOT.glob("crates/*/src/**/*.rt")):
+        function = ""
+        for line in path.read_text(encoding="utf-8").splitlines():
+            function = (re.match(CODE, line) or [None, function])[1]
+            found = re.search(r"ensures \{ λ r\. ⌜ r ≡ (?!every\b)(\w+)", line)
+            if found:
+                yield path.relative_to(ROOT), function, found[1]
+
+
 def main():
     items = [*declared("crates/*/src/**/*.rt", "//", CODE), *declared("crates/*/specs/*.antt", "--", SPEC)]
     governed = [(path, name) for path, name, clause in items if clause]
@@ -48,6 +61,11 @@ def main():
     known = {name for _, name, _ in items} | {path.parent.name for path in ROOT.glob("crates/*/src")}
     modules = {path.stem for path in ROOT.glob("crates/*/s*/**/*.*")}
     missing += [f"the page names {name}, which is not there" for name in sorted(named() - known - modules)]
+    under = {name for _, name, clause in items if clause}
+    defined = {name for path, name, _ in items if path.suffix == ".antt"}
+    sides = {(path, name): clause for path, name, clause in items}
+    missing += [f"{path}: {function} and {name}: a clause beside one of them alone" for path, function, name in equal()
+                if name in defined and sides[path, function] != (name in under)]
     there = {(path.parts[1], name) for path, name, _ in items}
     missing += [f"the page names {name} in {crate}, which has none" for crate, name in sorted(set(placed()) - there)]
     print("\n".join(missing) or f"{len(governed)} functions and definitions under clauses, all on the page")

@@ -10,7 +10,8 @@ use Rattle.states.specs.declared.grid.Effect.{Effect}
 use Rattle.states.specs.declared.grid.Effect.the-variants.{Keep, Enter}
 use Rattle.contents.specs.declared.byte.Entered.{Entered}
 
--- within the block, from byte 3 on, and its rule is kept (01, row 18)
+-- within the block, from byte 3 on, and its rule is kept (01, row 18).
+-- Notice 49, 4(1)(1-1)(c)(イ) to (エ), (d)(イ) and (ウ), 4(1)(1-2)(d)(ウ), 4(2)(d)(ウ)
 unfoldable pub isTaken : ℕ → Header → ℕ → ℕ → Bool
 isTaken kind h i b = leb 3 i && ltb i (blockLength kind) && takesByte kind h i b
 
@@ -25,5 +26,7 @@ enters kind h m i b =
     (cond (isEndKind kind) (leaves true h (enterModes m i b) Keep)
     (leaves true h m (Enter (2000 * (textNumber kind - 1) + (i - 3)))))
 
+-- a byte that keeps its rule enters; header and modes are as they were where it does not.
+-- Notice 49, 4(1)(1-1)(c)(イ) to (エ), 4(1)(1-2)(c)(エ), 4(2)(c)(エ)
 unfoldable pub entered : ℕ → Header → List ℕ → ℕ → ℕ → Entered
 entered kind h m i b = cond (isTaken kind h i b) (enters kind h m i b) (leaves false h m Keep)

@@ -5,9 +5,10 @@ use Rattle.texts.specs.Bytes.{isIn}
 use Rattle.texts.specs.StartBlock.{digitPlaces, stopPlaces}
 use Rattle.stream.specs.Contents.{indexIn}
 
--- places of the time: stops, and the number of a digit. Notice 49, 4(1)(1-1)(d)(イ)
+-- a stop stands at this place of the time. Notice 49, 4(1)(1-1)(d)(イ)
 unfoldable pub isStop : ℕ → Bool
 isStop i = isIn i stopPlaces
 
+-- the number of the digit at a place. Notice 49, 4(1)(1-1)(d)(イ)
 unfoldable pub digitIndex : ℕ → ℕ
 digitIndex i = indexIn i digitPlaces

@@ -17,7 +17,7 @@ unfoldable pub countAt : List ℕ → ℕ → ℕ → ℕ
 countAt grid level zero = 0
 countAt grid level (suc n) = countAt grid level n + cond (eqb (levelOf grid (suc n)) level) 1 0
 
--- How many of the 40,000 meshes are at a level; refusals in the order 42, 43, 41
+-- How many of the 40,000 meshes are at a level; refusals in the order 42, 43, 41. Notice 49, 5(3)(3-1)
 unfoldable pub meshesAt : List ℕ → ℕ → Answered
 meshesAt grid level =
     cond (not (isGrid grid)) (refused 42)

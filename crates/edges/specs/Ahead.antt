@@ -32,11 +32,12 @@ isGap f =
 
 -- ---- bytes between texts
 
--- up to the next `FD`; and as far as each is the opening's due byte. Notice 49, 4(1)(1-1)(c)(ア)
+-- up to the next `FD`. Notice 49, 4(1)(1-1)(c)(ア)
 unfoldable pub idleLength : List ℕ → ℕ
 idleLength [] = 0
 idleLength (b ∷ bytes) = cond (eqb b FD) 0 (suc (idleLength bytes))
 
+-- as far as each is the opening's due byte, up to the `FD`. Notice 49, 4(1)(1-1)(c)(ア)
 unfoldable pub dueLength : ℕ → ℕ → List ℕ → ℕ
 dueLength v n [] = 0
 dueLength v n (b ∷ bytes) = cond (eqb b FD || not (eqb b (dueByte (seenOf v n)))) 0 (suc (dueLength (pushSeen v b) (pushCount n) bytes))
@@ -67,9 +68,11 @@ blockAhead bytes = take 32 bytes
 abbrev pub isFramed : List ℕ → Bool
 isFramed bytes = eqb (bytes ! 32) EOR && eqb (bytes ! 33) (checkByte (blockAhead bytes))
 
+-- a start text. Notice 49, 4(1)(1-1)(c)(ア) and (イ)
 unfoldable pub startAhead : List ℕ → ℕ
 startAhead bytes = cond (isFramed bytes && isStartBlock (blockAhead bytes)) 34 0
 
+-- the due end text. Notice 49, 4(1)(1-1)(c)(ア) and (ウ)
 unfoldable pub endAhead : State → List ℕ → ℕ
 endAhead s bytes =
     let block = blockAhead bytes in
@@ -80,6 +83,7 @@ endAhead s bytes =
     && isFramed bytes
     && isEndBlock (s .header .radars) block) 34 0
 
+-- either, behind an opening. Notice 49, 4(1)(1-1)(c)(ア)
 unfoldable pub textAhead : State → List ℕ → ℕ
 textAhead s bytes =
     cond (leb 34 (length bytes) && endsOpening (seenOf (s .seen) (s .frame .count)) FD)
@@ -87,6 +91,7 @@ textAhead s bytes =
 
 -- ---- both, one behind the other
 
+-- bytes between texts, and such a text behind them. Notice 49, 4(1)(1-1)(c)(ア)
 unfoldable pub edgeAhead : State → List ℕ → ℕ
 edgeAhead s bytes =
     let n = waitLength s bytes in

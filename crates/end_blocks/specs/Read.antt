@@ -5,9 +5,10 @@ use mathlib.Core.List.{List}
 use Rattle.texts.specs.EndBlock.{isEndBlock, modesOf, noModes}
 use Rattle.end_blocks.specs.declared.read.EndRead.{EndRead}
 
--- an end block's modes, for these radars, all 0 where the block breaks a rule. Notice 49, 4(1)(1-1)(c)(ウ) and (d)(イ)
+-- what a block that breaks a rule gives: all 0. Notice 49, 4(1)(1-1)(c)(ウ) and (d)(イ)
 abbrev pub brokenEnd : EndRead
 brokenEnd = record { kept = false; modes = noModes }
 
+-- an end block's modes, where it keeps every rule for these radars. Notice 49, 4(1)(1-1)(c)(ウ) and (d)(イ)
 unfoldable pub endRead : List ℕ → List ℕ → EndRead
 endRead radars block = cond (isEndBlock radars block) (record { kept = true; modes = modesOf block }) brokenEnd

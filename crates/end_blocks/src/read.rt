@@ -17,7 +17,7 @@ pub struct EndRead {
     pub modes: [u8; 8],
 }
 
-// What a block that breaks a rule gives
+// What a block that breaks a rule gives: all 0. Notice 49, 4(1)(1-1)(c)(ウ) and (d)(イ)
 fn broken() -> EndRead
     ensures { λ r. ⌜ r ≡ brokenEnd ⌝ }
 {

@@ -33,25 +33,29 @@ byEntered s b e =
     (goesOn (state (s .seen) (s .frame) (e .header) (e .modes)) (advanced (s .frame) (s .frame .check ⊕ b)) Quiet (e .effect))
     (drops s 18)
 
+-- with its row. Notice 49, 4(1)(1-1)(d)(イ) and (ウ)
 unfoldable pub blockDecided : State → ℕ → Decided
 blockDecided s b = byEntered s b (enteredHere s b)
 
--- rows 19 and 20. Notice 49, 4(1)(1-1)(c)(ア)
+-- the byte after the block. Row 19. Notice 49, 4(1)(1-1)(c)(ア)
 unfoldable pub eorDecided : State → ℕ → Decided
 eorDecided s b = cond (eqb b EOR) (quietly s (advanced (s .frame) (s .frame .check ⊕ b))) (drops s 19)
 
+-- the check byte. Row 20. Notice 49, 4(1)(1-1)(c)(ア)
 unfoldable pub checkDecided : State → ℕ → Decided
 checkDecided s b = cond (eqb b (s .frame .check)) (quietly s (advanced (s .frame) (s .frame .check))) (drops s 20)
 
--- answer 1, part begun; answer 3, complete, and row 22; answer 2, data text taken. Notice 49, 4(1)(1-1)(d)(イ)
+-- answer 1, part begun. Notice 49, 4(1)(1-1)(d)(イ)
 unfoldable pub begunPart : State → Decided
 begunPart s =
     let part = partOf (s .frame .kind) in
     goesOn (state (s .seen) (s .frame) (s .header) noModes) (between (s .frame) part (firstDue part (s .header))) Begun Clear
 
+-- answer 3, complete. Row 22: status 2 is not the highest mode. Notice 49, 4(1)(1-1)(d)(イ)
 unfoldable pub endedPart : State → Decided
 endedPart s = cond (endsWell (s .header) (s .modes)) (goesOn s (between (s .frame) 0 0) Complete Keep) (drops s 22)
 
+-- answer 2, data text taken. Notice 49, 4(1)(1-1)(a), 4(1)(1-2)(a), 4(2)(a)
 unfoldable pub takenText : State → Decided
 takenText s =
     goesOn s (between (s .frame) (s .frame .part) (nextDue (s .frame .part) (textNumber (s .frame .kind)))) Taken Keep
@@ -62,7 +66,7 @@ lastDecided s b =
     cond (not (eqb b TPAD)) (drops s 21)
     (cond (isStartKind (s .frame .kind)) (begunPart s) (cond (isEndKind (s .frame .kind)) (endedPart s) (takenText s)))
 
--- by place
+-- by place. Notice 49, 4(1)(1-1)(c)(ア)
 unfoldable pub textDecided : State → ℕ → Decided
 textDecided s b =
     cond (ltb (s .frame .place) (blockLength (s .frame .kind))) (blockDecided s b)

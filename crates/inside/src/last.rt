@@ -44,7 +44,7 @@ fn ends_well(h: Header, modes: [u8; 8]) -> bool
     h.mode == highest_mode(modes)
 }
 
-// Answer 1, part begun: header kept, modes 0, whole grid 0
+// Answer 1, part begun: header kept, modes 0, whole grid 0. Notice 49, 4(1)(1-1)(d)(イ)
 fn begun_part(s: State) -> Decided
     ensures { λ r. ⌜ r ≡ begunPart s ⌝ }
 {

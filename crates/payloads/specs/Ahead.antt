@@ -14,12 +14,12 @@ use Rattle.states.specs.declared.state.State.{State}
 unfoldable pub isPaying : Frame → Bool
 isPaying f = leb 3 (f .place) && ltb (f .place) (blockLength (f .kind)) && not (isStartKind (f .kind)) && not (isEndKind (f .kind))
 
--- as far as they keep their part's rule
+-- as far as they keep their part's rule. Notice 49, 4(1)(1-1)(d)(ウ), 4(1)(1-2)(d)(ウ), 4(2)(d)(ウ)
 unfoldable pub payable : ℕ → List ℕ → ℕ
 payable p [] = 0
 payable p (b ∷ bytes) = cond (isPayloadByte p b) (suc (payable p bytes)) 0
 
--- and up to the block's end
+-- and up to the block's end. Notice 49, 4(1)(1-1)(c)(エ), 4(1)(1-2)(c)(エ), 4(2)(c)(エ)
 unfoldable pub payloadAhead : State → List ℕ → List ℕ → ℕ
 payloadAhead s g bytes =
     cond (isPaying (s .frame) && eqb (length g) gridLength)

@@ -8,7 +8,7 @@ use Rattle.texts.specs.Pictures.{isPictureCode}
 use Rattle.texts.specs.Kinds.{isKind, isStartKind, kindOf, blockLength}
 use Rattle.states.specs.declared.state.Frame.{Frame}
 
--- place, kind and picture code fit each other and the part open: what isPossible asks of them
+-- place, kind and picture code fit each other and the part open: what isPossible asks of them. Notice 49, 4(1)(1-1)(b), (d)(イ) and 5(1)
 unfoldable pub frameFits : Frame → Bool
 frameFits f =
     cond (eqb (f .kind) 0)

@@ -29,6 +29,7 @@ char digit = digit + 0x30
 abbrev pub stop : ℕ
 stop = 0x2E
 
+-- The time in ASCII, `YYYY.MM.DD.hh.mm`. Notice 49, 4(1)(1-1)(d)(イ)
 unfoldable pub timeText : List ℕ → List ℕ
 timeText d =
     char (d ! 0) ∷ char (d ! 1) ∷ char (d ! 2) ∷ char (d ! 3) ∷ stop

@@ -10,14 +10,15 @@ use Rattle.texts.specs.Kinds.{isStartKind}
 use Rattle.texts.specs.StartBlock.{hasMode, isClockByte, isStartBlock, headerOf, blankHeader}
 use Rattle.start_blocks.specs.declared.read.StartRead.{StartRead}
 
--- a start block's header, all 0 where the block breaks a rule. Notice 49, 4(1)(1-1)(c)(イ) and (d)(イ)
+-- what a block that breaks a rule gives: all 0. Notice 49, 4(1)(1-1)(c)(イ) and (d)(イ)
 abbrev pub brokenStart : StartRead
 brokenStart = record { kept = false; header = blankHeader }
 
+-- a start block's header, where it keeps every rule. Notice 49, 4(1)(1-1)(c)(イ) and (d)(イ)
 unfoldable pub startRead : List ℕ → StartRead
 startRead block = cond (isStartBlock block) (record { kept = true; header = headerOf block }) brokenStart
 
--- the rules of a start block's bytes 0 to 7
+-- the rules of a start block's bytes 0 to 7. Notice 49, 4(1)(1-1)(c)(イ) and (d)(イ)
 unfoldable pub startFront : List ℕ → Bool
 startFront block =
     allOf (

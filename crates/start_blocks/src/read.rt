@@ -21,7 +21,7 @@ pub struct StartRead {
     pub header: Header,
 }
 
-// What a block that breaks a rule gives
+// What a block that breaks a rule gives: all 0. Notice 49, 4(1)(1-1)(c)(イ) and (d)(イ)
 fn broken() -> StartRead
     ensures { λ r. ⌜ r ≡ brokenStart ⌝ }
 {

@@ -19,13 +19,15 @@ use Rattle.inside.specs.Inside.{textDecided}
 
 -- state s has the byte among its bytes seen already
 
--- a text under way at place 1; between texts; at a later place of the text, with the byte in the running check byte
+-- a text under way at place 1, with this part and due text. Notice 49, 4(1)(1-1)(c)(ア)
 abbrev pub atFirst : ℕ → ℕ → ℕ → Frame
 atFirst part due count = frame 1 0 0 part due FD count
 
+-- between texts, with this part and due text
 abbrev pub atGap : ℕ → ℕ → ℕ → Frame
 atGap part due count = frame 0 0 0 part due 0 count
 
+-- at a later place of the text, with the byte in the running check byte. Notice 49, 4(1)(1-1)(c)(ア)
 unfoldable pub onward : Frame → ℕ → ℕ → ℕ → ℕ → Frame
 onward f place kind picture b = frame place kind picture (f .part) (f .due) (f .check ⊕ b) (f .count)
 
@@ -57,7 +59,7 @@ kindRow f picture b =
     cond (not (isKind b)) 14
     (cond (eqb (f .part) 0 || not (eqb b (kindOf (f .part) (f .due)))) 16 (cond (eqb (f .picture) picture) 0 17))
 
--- block byte 2. Rows 14 to 17
+-- block byte 2. Rows 14 to 17. Notice 49, 4(1)(1-1)(d)(イ) and (ウ)
 unfoldable pub kindDecided : State → ℕ → Decided
 kindDecided s b =
     let row = kindRow (s .frame) (s .header .picture) b in
@@ -70,6 +72,7 @@ pushedState s b =
     (frame (s .frame .place) (s .frame .kind) (s .frame .picture) (s .frame .part) (s .frame .due) (s .frame .check) (pushCount (s .frame .count)))
     (s .header) (s .modes)
 
+-- one byte: an opening is looked for before every other check. Notice 49, 4(1)(1-1)(c)(ア)
 unfoldable pub decide : State → ℕ → Decided
 decide s b =
     cond (endsOpening (seenOf (s .seen) (s .frame .count)) b) (openedText (pushedState s b))

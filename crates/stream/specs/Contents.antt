@@ -18,15 +18,16 @@ abbrev pub indexIn : ℕ → List ℕ → ℕ
 indexIn i [] = 0
 indexIn i (x ∷ xs) = cond (eqb i x) 0 (suc (indexIn i xs))
 
--- the digits with one more, at place i of `YYYY.MM.DD.hh.mm`
+-- the digits with one more, at place i of `YYYY.MM.DD.hh.mm`. Notice 49, 4(1)(1-1)(d)(イ)
 abbrev pub withDigit : List ℕ → ℕ → ℕ → List ℕ
 withDigit time i b = set time (indexIn i digitPlaces) (b - 0x30)
 
--- 01, row 18: digits and stops are judged at their own byte; date, hour and minute at the last
+-- 01, row 18: digits and stops are judged at their own byte; date, hour and minute at the last. Notice 49, 4(1)(1-1)(d)(イ)
 unfoldable pub timeTakes : List ℕ → ℕ → ℕ → Bool
 timeTakes time i b =
     cond (isIn i stopPlaces) (eqb b 0x2E) (isDigit b && (not (eqb i 15) || isTime (withDigit time i b)))
 
+-- 01, row 18: the rule of byte i of a start block. Notice 49, 4(1)(1-1)(c)(イ) and (d)(イ)
 unfoldable pub startTakes : Header → ℕ → ℕ → Bool
 startTakes h i b =
     cond (eqb i 3) (eqb b 0)
@@ -66,7 +67,8 @@ withRadars h r =
 unfoldable pub begunHeader : ℕ → Header
 begunHeader picture = withPicture blankHeader picture
 
--- 01: the fields then enter as they come. Of the clock, the high part enters first, and the low part beside it
+-- 01: the fields then enter as they come. Of the clock, the high part enters first, and the low part beside it.
+-- Notice 49, 4(1)(1-1)(c)(イ) and (d)(イ)
 unfoldable pub enterHeader : Header → ℕ → ℕ → Header
 enterHeader h i b =
     cond (eqb i 3) h
@@ -79,9 +81,11 @@ enterHeader h i b =
 
 -- ---- the end block, Notice 49, 4(1)(1-1)(c)(ウ) and (d)(イ)
 
+-- 01, row 18: the rule of byte i of an end block for these radars. Notice 49, 4(1)(1-1)(c)(ウ) and (d)(イ)
 unfoldable pub endTakes : List ℕ → ℕ → ℕ → Bool
 endTakes radars i b = cond (leb i 10) (isModeByte (radars ! (i - 3)) b) (eqb b 0)
 
+-- the modes with byte i. Notice 49, 4(1)(1-1)(c)(ウ) and (d)(イ)
 unfoldable pub enterModes : List ℕ → ℕ → ℕ → List ℕ
 enterModes modes i b = cond (leb i 10) (set modes (i - 3) (modeOf b)) modes
 

@@ -86,7 +86,7 @@ kindByte s g seen b =
     (cond (eqb (s .picture) (s .header .picture)) (answers 0 (within s seen 3 b (s .picture) (s .check ⊕ b)) g)
     (drops 17 seen)))))
 
--- where a block byte enters
+-- where a block byte enters. Notice 49, 4(1)(1-1)(c)(イ) to (エ), 4(1)(1-2)(c)(エ), 4(2)(c)(エ)
 abbrev pub entered : State → List ℕ → ℕ → State
 entered s seen b =
     record {
@@ -124,6 +124,7 @@ checkedByte s g seen b =
 unfoldable pub firstDue : ℕ → Header → ℕ
 firstDue part h = cond (eqb (dataTexts part (h .noecho)) 0) 11 1
 
+-- the due text after data text k. Notice 49, 4(1)(1-1)(a), 4(1)(1-2)(a), 4(2)(a)
 unfoldable pub nextDue : ℕ → ℕ → ℕ
 nextDue part k = cond (ltb k (dataTexts part false)) (suc k) 11
 

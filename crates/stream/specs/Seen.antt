@@ -14,6 +14,7 @@ push seen b = take 5 (b ∷ seen)
 abbrev pub openingBack : List ℕ
 openingBack = FD ∷ STX ∷ DLE ∷ SYN ∷ SYN ∷ LPAD ∷ []
 
+-- an opening ends with this byte. Notice 49, 4(1)(1-1)(c)(ア)
 unfoldable pub endsOpening : List ℕ → ℕ → Bool
 endsOpening seen b = same (b ∷ seen) openingBack
 

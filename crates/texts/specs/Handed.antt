@@ -18,6 +18,7 @@ headingOf h = record { time = h .time; radars = h .radars; clock = h .clock; pic
 unfoldable pub isModeFor : ℕ → ℕ → Bool
 isModeFor radar m = cond (eqb radar 0) (eqb m 0) (leb 1 m && leb m 3)
 
+-- The modes of eight places. Notice 49, 4(1)(1-1)(d)(イ)
 unfoldable pub areModesFor : List ℕ → List ℕ → Bool
 areModesFor radars modes = every (λ i. isModeFor (radars ! i) (modes ! i)) radarPlaces
 

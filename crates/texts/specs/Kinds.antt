@@ -39,24 +39,27 @@ byText p t (k ∷ ks) = cond (eqb p (k .part) && eqb t (k .text)) k (byText p t 
 unfoldable pub isPartNumber : ℕ → Bool
 isPartNumber p = leb 1 p && leb p 3
 
--- The part of a kind, 0 where b is no kind
+-- The part of a kind, 0 where b is no kind. Notice 49, 4(1)(1-1)(d)(イ) and (ウ)
 unfoldable pub partOf : ℕ → ℕ
 partOf b = byCode b kinds .part
 
--- The text number of a kind, 0 for a start kind and where b is no kind
+-- The text number of a kind, 0 for a start kind and where b is no kind. Notice 49, 4(1)(1-1)(d)(イ) and (ウ)
 unfoldable pub textNumber : ℕ → ℕ
 textNumber b = byCode b kinds .text
 
--- The kind of text t of part p, 0 where there is none
+-- The kind of text t of part p, 0 where there is none. Notice 49, 4(1)(1-1)(d)(イ) and (ウ)
 unfoldable pub kindOf : ℕ → ℕ → ℕ
 kindOf p t = byText p t kinds .code
 
+-- One of the 18 kinds. Notice 49, 4(1)(1-1)(d)(イ) and (ウ)
 unfoldable pub isKind : ℕ → Bool
 isKind b = not (eqb (partOf b) 0)
 
+-- A start kind. Notice 49, 4(1)(1-1)(d)(イ)
 unfoldable pub isStartKind : ℕ → Bool
 isStartKind b = isKind b && eqb (textNumber b) 0
 
+-- An end kind. Notice 49, 4(1)(1-1)(d)(イ)
 unfoldable pub isEndKind : ℕ → Bool
 isEndKind b = isKind b && eqb (textNumber b) 11
 

@@ -26,13 +26,14 @@ oneOf true false true = 0
 oneOf false true true = 0
 oneOf true true true = 0
 
+-- The mode of a byte with mode bits; 0 unless exactly one of the three is set. Notice 49, 4(1)(1-1)(d)(イ)
 unfoldable pub modeOf : ℕ → ℕ
 modeOf b = oneOf (bit b 2) (bit b 4) (bit b 6)
 
 unfoldable pub hasMode : ℕ → Bool
 hasMode b = not (eqb (modeOf b) 0)
 
--- The byte that says a mode, meaningless bits 0; 0 for a number that is no mode
+-- The byte that says a mode, meaningless bits 0; 0 for a number that is no mode. Notice 49, 4(1)(1-1)(d)(イ)
 unfoldable pub modeByte : ℕ → ℕ
 modeByte m = cond (eqb m 1) 0x04 (cond (eqb m 2) 0x10 (cond (eqb m 3) 0x40 0))
 
@@ -40,6 +41,7 @@ modeByte m = cond (eqb m 1) 0x04 (cond (eqb m 2) 0x10 (cond (eqb m 3) 0x40 0))
 unfoldable pub isClockByte : ℕ → Bool
 isClockByte b = leb b 0x7F
 
+-- The clock that two bytes give, high part first. Notice 49, 4(1)(1-1)(d)(イ)
 unfoldable pub clockOf : ℕ → ℕ → ℕ
 clockOf high low = high * 128 + low
 
@@ -50,7 +52,7 @@ clockBytes clock = clock / 128 ∷ clock % 128 ∷ []
 unfoldable pub isLeapYear : ℕ → Bool
 isLeapYear y = eqb (y % 4) 0 && not (eqb (y % 100) 0) || eqb (y % 400) 0
 
--- the days of a month; 31 where the number is no month
+-- the days of a month; 31 where the number is no month. Notice 49, 4(1)(1-1)(d)(イ)
 unfoldable pub daysIn : ℕ → ℕ → ℕ
 daysIn y m = cond (eqb m 2) (cond (isLeapYear y) 29 28) (cond (isIn m (4 ∷ 6 ∷ 9 ∷ 11 ∷ [])) 30 31)
 
@@ -66,6 +68,7 @@ yearOf ds = ds ! 0 * 1000 + ds ! 1 * 100 + ds ! 2 * 10 + ds ! 3
 abbrev pub twoDigits : ℕ → ℕ → ℕ
 twoDigits tens ones = tens * 10 + ones
 
+-- Twelve digits, YYYYMMDDhhmm, that give a date and time. Notice 49, 4(1)(1-1)(d)(イ)
 unfoldable pub isTime : List ℕ → Bool
 isTime ds =
     every (λ d. leb d 9) ds
@@ -81,7 +84,7 @@ stopPlaces = 4 ∷ 7 ∷ 10 ∷ 13 ∷ []
 unfoldable pub isDigit : ℕ → Bool
 isDigit char = leb 0x30 char && leb char 0x39
 
--- the twelve digits, as numbers
+-- the twelve digits, as numbers. Notice 49, 4(1)(1-1)(d)(イ)
 unfoldable pub digitsOf : List ℕ → List ℕ
 digitsOf chars = map (λ i. chars ! i - 0x30) digitPlaces
 
@@ -99,6 +102,7 @@ radarCodes =
     0xA0 ∷ 0xA1 ∷ 0xA2 ∷ 0xA3 ∷ 0xA4 ∷ 0xA5 ∷ 0xA7 ∷ 0xA8 ∷ 0xA9 ∷ 0xAA ∷ 0xAB ∷ 0xAC ∷ 0xAD ∷ 0xAE ∷ 0xAF
     ∷ 0xB0 ∷ 0xB1 ∷ 0xB3 ∷ 0xB4 ∷ 0xB5 ∷ 0xB6 ∷ []
 
+-- One of the radar codes. Notice 49, 5(2)
 unfoldable pub isRadarCode : ℕ → Bool
 isRadarCode b = isIn b radarCodes
 

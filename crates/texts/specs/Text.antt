@@ -34,7 +34,7 @@ controlA = LPAD ∷ SYN ∷ SYN ∷ DLE ∷ STX ∷ []
 abbrev pub opening : List ℕ
 opening = LPAD ∷ SYN ∷ SYN ∷ DLE ∷ STX ∷ FD ∷ []
 
--- The exclusive or of all bytes of a list
+-- The exclusive or of all bytes of a list. Notice 49, 4(1)(1-1)(c)(ア)
 unfoldable pub xorAll : List ℕ → ℕ
 xorAll [] = 0
 xorAll (b ∷ bytes) = bitXor b (xorAll bytes)
