@@ -1,8 +1,8 @@
-// Asks the public functions of layer 1 and prints what they answer. Standard input is requests, one
-// behind the other, to its end. A request is a byte for what is asked, two bytes for the length of
-// its arguments, high byte first, and the arguments. For each a line is printed: the byte in decimal,
-// and then the results. A function of one, two, three or six bytes is asked for each so many bytes of
-// the arguments; any other has all of them at once.
+// Asks the public functions of layer 1, the readers of whole blocks aside, and prints what they
+// answer. Standard input is requests, one behind the other, to its end. A request is a byte for what
+// is asked, two bytes for the length of its arguments, high byte first, and the arguments. For each a
+// line is printed: the byte in decimal, and then the results. A function of one, two, three or six
+// bytes is asked for each so many bytes of the arguments; any other has all of them at once.
 //
 // Requests and lines are made by tests/text_vectors.py from the model of 01; what each byte asks
 // stands there.
