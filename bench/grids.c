@@ -1,5 +1,5 @@
 /* The services on grids of 01-scope.md, written as plain loops in C, to be measured against. Reads grids of
- * 20,000 bytes from standard input and prints what the program grid_totals prints: for each grid how many
+ * 20,000 bytes from standard input and prints what the program try_grids prints: for each grid how many
  * meshes are at or above levels 1, 5 and 10, and of all grids so far laid over each other, at or above 1; a
  * refused grid has its refusal in place of each number, and is not laid over the others. */
 #include <stdint.h>

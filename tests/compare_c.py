@@ -2,7 +2,7 @@
 
     python3 tests/compare_c.py
 
-It builds the C file as a program (with $CC, else cc), gives it the stream of listen_samples.py and hostile
+It builds the C file as a program (with $CC, else cc), gives it the stream of listen.py and hostile
 traffic made by tests/second with fixed seeds, and compares: the listening lines from the byte call and both slice
 calls, in slices of several lengths; the state and the grid after every call; and refusals 1 and 2 of
 made-up states. It also holds the model's answer 3 against texts.py on the same streams: a part is complete
@@ -24,7 +24,7 @@ sys.dont_write_bytecode = True
 HERE = Path(__file__).resolve().parent
 sys.path[:0] = [str(HERE), str(HERE / "model")]
 import texts
-from listen_samples import STREAM
+from listen import STREAM
 from receiver import LENGTH, Receiver, part_at_end
 from texts import CONTROL, FF, KINDS, OPENING
 

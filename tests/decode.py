@@ -14,8 +14,8 @@ import sys
 from collections import Counter
 
 sys.dont_write_bytecode = True
-from count_answers import altered
-from listen_samples import (EIGHT_RADARS, INTENSITY_ANSWERS, QUALITY_BEGUN, THREE_RADARS, TOP_BEGUN, TOP_TAKEN,
+from try_byte_call import altered
+from listen import (EIGHT_RADARS, INTENSITY_ANSWERS, QUALITY_BEGUN, THREE_RADARS, TOP_BEGUN, TOP_TAKEN,
                             data, end, start, whole, with_extra)
 from receiver import SAMPLE_END, SAMPLE_START, Receiver
 from texts import FE, INTENSITY, OPENING, PICTURES, QUALITY, RADARS, TOP, payload_length

@@ -2,7 +2,7 @@
 """Compares the proved programs with a second model of 01, on hostile traffic.
 
     python3 tests/differential.py [--seconds 60] [--seed 1] [--length 200000]
-                                  [--bin target/bin] [--programs listen,traffic]
+                                  [--bin target/bin] [--programs listen,try_traffic]
 
 The model, in C under tests/second/, was written from 01 alone.  It is built
 into a temporary folder with $CC (else cc).  For seed, seed + 1, ... until the
@@ -10,8 +10,8 @@ time is up a stream is made, and many short ones are cut from it (0 to 300
 bytes, at any place).  On each stream the complete outputs are compared:
 
     listen         from a file, and through a pipe in pieces   second answers
-    count_answers  from a file                                 second totals
-    traffic        from a file                                 second traffic
+    try_byte_call  from a file                                 second totals
+    try_traffic    from a file                                 second traffic
     resend         from a file                                 second resend
     decode         from a file                                 second traffic, laid out by decode.py
 
@@ -25,14 +25,14 @@ status is 0 and the figures of the run are printed.
 
 The fixed corpus of a program, kept beside its source, is made by
 
-    second generate SEED LENGTH > crates/traffic/stdin
-    second traffic < crates/traffic/stdin > crates/traffic/stdout
+    second generate SEED LENGTH > crates/try_traffic/stdin
+    second traffic < crates/try_traffic/stdin > crates/try_traffic/stdout
 
 (and the same with `resend` for crates/resend), or in one step by
 
-    python3 tests/differential.py --corpus SEED LENGTH crates/traffic
+    python3 tests/differential.py --corpus SEED LENGTH crates/try_traffic
 
-where the folder's name, traffic or resend, chooses the program.
+where the folder's name, try_traffic or resend, chooses the program.
 """
 
 import argparse
@@ -53,7 +53,7 @@ HERE = Path(__file__).resolve().parent
 sys.path.insert(0, str(HERE))
 import decode
 
-MODEL_OF = {"listen": "answers", "count_answers": "totals", "traffic": "traffic", "resend": "resend",
+MODEL_OF = {"listen": "answers", "try_byte_call": "totals", "try_traffic": "traffic", "resend": "resend",
             "decode": "traffic"}
 KIND_NAMES = {1: "intensity", 2: "echo top", 3: "quality"}
 RUN_TIMEOUT = 120  # seconds for one run of a program: far above what any needs
@@ -319,10 +319,10 @@ def chosen_programs(options):
 def write_corpus(model, seed, length, folder):
     """The fixed input of a program and the output that the model expects."""
     folder = Path(folder)
-    if folder.name not in ("traffic", "resend") or not folder.is_dir():
-        fail(f"{folder} is not a folder named traffic or resend")
+    if folder.name not in ("try_traffic", "resend") or not folder.is_dir():
+        fail(f"{folder} is not a folder named try_traffic or resend")
     (folder / "stdin").write_bytes(run_model([model, "generate", seed, length]))
-    (folder / "stdout").write_bytes(run_model([model, folder.name], folder / "stdin"))
+    (folder / "stdout").write_bytes(run_model([model, MODEL_OF[folder.name]], folder / "stdin"))
 
 
 def main():

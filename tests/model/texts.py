@@ -27,7 +27,7 @@ EDGE_BLOCK = 32
 GRID = 20_000
 
 # "header (without status bytes)": the twelve digits YYYYMMDDhhmm, the radar codes and then 0
-Heading = namedtuple("Heading", "time radars clock picture")
+WriterHeader = namedtuple("WriterHeader", "time radars clock picture")
 # "A part's header is the picture code, clock, time, radar codes, NO ECHO and mode that its start
 # block gives."
 Header = namedtuple("Header", "time radars clock picture mode noecho")
@@ -307,21 +307,21 @@ def are_modes_for(radars, modes):
     return len(modes) == 8 and all(map(is_mode_for, radars, modes))
 
 
-# ---- What a writer may be handed
+# ---- What a writer takes
 
 # Row 32, "header or modes break a rule above": the header's share
-def is_heading(heading):
+def is_writer_header(writer_header):
     return (
-        is_picture_code(heading.picture)
-        and is_clock(heading.clock)
-        and is_time(heading.time)
-        and is_radar_list(heading.radars)
+        is_picture_code(writer_header.picture)
+        and is_clock(writer_header.clock)
+        and is_time(writer_header.time)
+        and is_radar_list(writer_header.radars)
     )
 
 
 # Row 32, "header or modes break a rule above"
-def is_handed(heading, modes):
-    return is_heading(heading) and are_modes_for(heading.radars, modes)
+def is_writer_input(writer_header, modes):
+    return is_writer_header(writer_header) and are_modes_for(writer_header.radars, modes)
 
 
 # Row 33, "payload not 20,000, 400 or 100 bytes by part, or a forbidden byte"
@@ -334,8 +334,8 @@ def is_payload(part, payload):
 
 
 # "header (without status bytes)"
-def heading_of(header):
-    return Heading(header.time, header.radars, header.clock, header.picture)
+def writer_header_of(header):
+    return WriterHeader(header.time, header.radars, header.clock, header.picture)
 
 
 # ---- Blocks
@@ -515,9 +515,9 @@ def make_part(part, header, modes, payload):
 
 # What the writer makes: "NO ECHO is set exactly for an intensity or top payload of all
 # zeros."
-def written_part(part, heading, modes, payload):
+def written_part(part, writer_header, modes, payload):
     noecho = part != QUALITY and not any(payload)
-    header = Header(*heading, mode=highest_mode(modes), noecho=noecho)
+    header = Header(*writer_header, mode=highest_mode(modes), noecho=noecho)
     return make_part(part, header, modes, payload)
 
 
@@ -543,7 +543,7 @@ def _samples():
     part = make_text(start) + make_text(end)
     assert undamaged_text(make_text(start)) and undamaged_text(make_text(end)) and undamaged_part(part)
     header = header_of_part(part)
-    assert part == written_part(INTENSITY, heading_of(header), modes_of_part(part), bytes(20_000))
+    assert part == written_part(INTENSITY, writer_header_of(header), modes_of_part(part), bytes(20_000))
 
 
 if __name__ == "__main__":

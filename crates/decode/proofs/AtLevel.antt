@@ -8,13 +8,13 @@ use native.Mathlib.Omega.{arith}
 use lib.Dec.{eqb, leb, ltb}
 use lib.ListN.{length, List·getD-eq-default}
 use borrow.Author.Tests.{eqb-true, eqb-false, leb-true, leb-false, ltb-true, ltb-false, le-leb, lt-leb}
-use Rattle.texts.specs.Bytes.{_!_}
-use Rattle.texts.specs.DataBlock.{oddLevel, evenLevel, isIntensityByte}
-use Rattle.text_laws.proofs.Rules.{by-test, and-split, every-at}
-use Rattle.grids.specs.Meshes.{Answered, value, refused, levelOf, countTo, meshes, isGrid, isRead, isLevel, meshesFrom}
-use Rattle.grids.specs.Served.{found}
-use Rattle.grids.specs.declared.answer.Found.{Found}
-use Rattle.grids.specs.declared.answer.Found.the-variants.{Value, Refused}
+use Rattle.general_laws.specs.Bytes.{_!_}
+use Rattle.text.specs.DataBlock.{oddLevel, evenLevel, isIntensityByte}
+use Rattle.general_laws.proofs.Tests.{by-test, and-split, every-at}
+use Rattle.service_levels.specs.Meshes.{ServiceAnswer, value, refused, levelOf, countTo, meshes, isGrid, hasNoLevel15, isLevel, meshesFrom}
+use Rattle.service_levels.specs.Returned.{answerOf}
+use Rattle.service_levels.specs.declared.result.LevelResult.{LevelResult}
+use Rattle.service_levels.specs.declared.result.LevelResult.the-variants.{Value, Refused}
 use Rattle.decode.specs.Count.{countAt, meshesAt, lessOf}
 
 -- a level is at or above another if it is that one, or at or above the next
@@ -32,7 +32,7 @@ split grid level zero = refl
 split grid level (suc n) = omega (arith, split grid level n, next level (levelOf grid (suc n)))
 
 -- no mesh of a grid that is read is above level 14
-module _ (grid : List ℕ) (read : isRead grid ≡ true) where
+module _ (grid : List ℕ) (read : hasNoLevel15 grid ≡ true) where
   byte : (i : ℕ) → (oddLevel (grid ! i) ≤ 14) × (evenLevel (grid ! i) ≤ 14)
   unfolding isIntensityByte oddLevel evenLevel
   byte i =
@@ -54,7 +54,7 @@ module _ (grid : List ℕ) (read : isRead grid ≡ true) where
   last n = split grid 14 n ∙ ap (λ k. countAt grid 14 n + k) (none n) ∙ add-zero _
 
 -- refusals by three tests, and a value
-abbrev pick : Bool → Bool → Bool → ℕ → Answered
+abbrev pick : Bool → Bool → Bool → ℕ → ServiceAnswer
 pick g r l n = cond (not g) (refused 42) (cond (not r) (refused 43) (cond (not l) (refused 41) (value n)))
 
 never : {A : Type 0} (n m : ℕ) → value n ≡ refused m → A
@@ -83,30 +83,30 @@ module _ (grid : List ℕ) (level : ℕ) where
   pub at-top : 14 ≤ level → meshesFrom grid level ≡ meshesAt grid level
   unfolding meshesFrom meshesAt
   at-top h =
-      pick-same (isGrid grid) (isRead grid) (isLevel level) _ _
+      pick-same (isGrid grid) (hasNoLevel15 grid) (isLevel level) _ _
       (λ r l. let e : level ≡ 14 = omega (arith, leb-true level 14 l) in rw e (last grid r meshes))
 
   refused-here : (row : ℕ) → refused row ≡ meshesFrom grid level → refused row ≡ meshesAt grid level
   unfolding meshesFrom meshesAt
-  refused-here row h = sym (pick-refused (isGrid grid) (isRead grid) (isLevel level) _ _ row (sym h))
+  refused-here row h = sym (pick-refused (isGrid grid) (hasNoLevel15 grid) (isLevel level) _ _ row (sym h))
 
   refused-next : (row : ℕ) → level < 14 → refused row ≡ meshesFrom grid (level + 1) → refused row ≡ meshesAt grid level
   unfolding meshesFrom meshesAt
   refused-next row l h =
       rw (le-leb level 14 (omega arith))
-      (sym (pick-refused (isGrid grid) (isRead grid) true _ _ row (sym (rw (le-leb (level + 1) 14 (omega arith)) at h))))
+      (sym (pick-refused (isGrid grid) (hasNoLevel15 grid) true _ _ row (sym (rw (le-leb (level + 1) 14 (omega arith)) at h))))
 
   both : (n m : ℕ) → value n ≡ meshesFrom grid level → value m ≡ meshesFrom grid (level + 1) → value (n - m) ≡ meshesAt grid level
   unfolding meshesFrom meshesAt
   both n m h k =
-      let here = pick-value (isGrid grid) (isRead grid) (isLevel level) _ (countAt grid level meshes) n (sym h) in
-      let above = pick-value (isGrid grid) (isRead grid) (isLevel (level + 1)) _ 0 m (sym k) in
+      let here = pick-value (isGrid grid) (hasNoLevel15 grid) (isLevel level) _ (countAt grid level meshes) n (sym h) in
+      let above = pick-value (isGrid grid) (hasNoLevel15 grid) (isLevel (level + 1)) _ 0 m (sym k) in
       let less : n - m ≡ countAt grid level meshes = omega (arith, here .0, above .0, split grid level meshes) in
       ap value less ∙ sym (here .1)
 
-  pub at-less : (from above : Found) → level < 14 → found from ≡ meshesFrom grid level → found above ≡ meshesFrom grid (level + 1)
-      → found (lessOf from above) ≡ meshesAt grid level
-  unfolding found
+  pub at-less : (from above : LevelResult) → level < 14 → answerOf from ≡ meshesFrom grid level → answerOf above ≡ meshesFrom grid (level + 1)
+      → answerOf (lessOf from above) ≡ meshesAt grid level
+  unfolding answerOf
   at-less (Value n) (Value m) l h k = both n m h k
   at-less (Value n) (Refused row) l h k = refused-next row l k
   at-less (Refused row) above l h k = refused-here row h

@@ -1,8 +1,8 @@
 // Counts of meshes: those at one level, or of one value.
-use grids::answer::Found;
-use grids::meshes::meshes_from;
+use service_levels::meshes::meshes_from;
+use service_levels::result::LevelResult;
 ghost use mathlib.Core.Path.{_≡_};
-ghost use Rattle.grids.specs.Served.{found};
+ghost use Rattle.service_levels.specs.Returned.{answerOf};
 ghost use Rattle.decode.specs.Count.{countOf, lessOf, meshesAt};
 
 // How many bytes equal `value`, where each byte is a mesh.
@@ -20,22 +20,22 @@ pub fn bytes_at(bytes: &[u8], value: u8) -> usize
 }
 
 // The first count less the second, or the refusal of either
-fn less(first: Found, second: Found) -> Found
+fn less(first: LevelResult, second: LevelResult) -> LevelResult
     ensures { λ r. ⌜ r ≡ lessOf first second ⌝ }
 {
     match first {
-        Found::Value(n) => match second {
-            Found::Value(m) => Found::Value(if m <= n { n - m } else { 0 }),
-            Found::Refused(row) => Found::Refused(row),
+        LevelResult::Value(n) => match second {
+            LevelResult::Value(m) => LevelResult::Value(if m <= n { n - m } else { 0 }),
+            LevelResult::Refused(row) => LevelResult::Refused(row),
         },
-        Found::Refused(row) => Found::Refused(row),
+        LevelResult::Refused(row) => LevelResult::Refused(row),
     }
 }
 
 // How many of the 40,000 meshes are at a level, 0 to 14: those at or above it, less those at or above
 // the next. Refusals are those of the service. Notice 49, 5(3)(3-1)
-pub fn meshes_at(grid: &[u8], level: u8) -> Found
-    ensures { λ r. ⌜ found r ≡ meshesAt (now (grid .entry)) level ⌝ }
+pub fn meshes_at(grid: &[u8], level: u8) -> LevelResult
+    ensures { λ r. ⌜ answerOf r ≡ meshesAt (now (grid .entry)) level ⌝ }
 {
     if level >= 14 {
         return meshes_from(grid, level);

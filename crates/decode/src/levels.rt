@@ -6,7 +6,7 @@ use crate::line::put;
 use crate::line::put_entry;
 use crate::line::put_labelled;
 use crate::line::put_number;
-use grids::answer::Found;
+use service_levels::result::LevelResult;
 
 // What each level of intensity stands for. Notice 49, 5(3)(3-1)
 const RAIN: [u8; 300] = *b"\
@@ -61,10 +61,10 @@ fn refused_line(out: &mut Buffer, used: usize, level: u8, row: u8) -> usize {
 
 // A complete part's grid is not refused: it has its 20,000 bytes and no level 15
 fn intensity_line(out: &mut Buffer, used: usize, grid: &[u8], level: u8) -> usize {
-    let found = meshes_at(grid, level);
-    match found {
-        Found::Value(n) => level_line(out, used, level, n as usize, &RAIN),
-        Found::Refused(row) => refused_line(out, used, level, row),
+    let answerOf = meshes_at(grid, level);
+    match answerOf {
+        LevelResult::Value(n) => level_line(out, used, level, n as usize, &RAIN),
+        LevelResult::Refused(row) => refused_line(out, used, level, row),
     }
 }
 

@@ -1,39 +1,45 @@
 // Output: words and numbers are put behind each other into a buffer `out`, in which the first `used`
 // bytes wait to be written. Each function gives how many wait after it.
 use libc::STDOUT_FILENO;
-ghost use Prim.Native.Nat.{_<_};
 
 // What io::buffer makes. Of this length and not a slice, it costs the prover less
 pub type Buffer = [u8; 4096];
 
 const HEX: [u8; 16] = *b"0123456789ABCDEF";
 
-fn write_first(bytes: &[u8], n: usize) {
+// What stands for the bytes that wait once a write has failed: nothing is put any more
+const FAILED: usize = 4097;
+
+fn write_first(bytes: &[u8], n: usize) -> bool {
     if n <= bytes.len() {
-        io::write_all(STDOUT_FILENO, &bytes[..n]);
+        return io::write_all(STDOUT_FILENO, &bytes[..n]);
     }
+    false
 }
 
-// Writes what waits
-pub fn flush(out: &Buffer, used: usize) {
-    write_first(out, used);
+// Writes what waits, and gives whether all of the output so far is written
+pub fn flush(out: &Buffer, used: usize) -> bool {
+    write_first(out, used)
 }
 
 // Where the next byte goes: a buffer that is full is written, and filled anew
-fn place(out: &Buffer, used: usize) -> usize
-    ensures { λ r. ⌜ r < 4096 ⌝ }
-{
-    if used < 4096 {
+fn place(out: &Buffer, used: usize) -> usize {
+    if used != 4096 {
         return used;
     }
-    flush(out, used);
-    0
+    if flush(out, used) {
+        return 0;
+    }
+    FAILED
 }
 
 pub fn put_byte(out: &mut Buffer, used: usize, b: u8) -> usize {
     let at = place(out, used);
-    out[at] = b;
-    at + 1
+    if at < 4096 {
+        out[at] = b;
+        return at + 1;
+    }
+    FAILED
 }
 
 pub fn put(out: &mut Buffer, used: usize, word: &[u8]) -> usize {

@@ -27,12 +27,22 @@ mod part; // the block of a part
 mod quality; // the lines of quality values
 mod totals; // how often each answer came
 
+use libc::STDERR_FILENO;
 use libc::STDIN_FILENO;
-use slice_receiver::calls::slice_call;
-use states::answer::number_of;
-use states::state::State;
-use states::state::fresh;
-ghost use Prim.Native.Nat.{_≤_};
+use receiver_slice_call::calls::slice_call;
+use receiver_state::answer::Answer;
+use receiver_state::answer::number_of;
+use receiver_state::state::State;
+use receiver_state::state::fresh;
+
+// The receiver after some bytes, how many they were, whether all lines so far are written, and
+// whether to go on
+struct FeedResult {
+    state: State,
+    total: u64,
+    written: bool,
+    goes_on: bool,
+}
 
 // Bytes read so far; a count of 64 bits stays at its end, which no input reaches
 fn more(total: u64, count: usize) -> u64 {
@@ -43,18 +53,6 @@ fn more(total: u64, count: usize) -> u64 {
     u64::MAX
 }
 
-// How many of the bytes left a call took. No call is refused, as the grid has 20,000 bytes and the
-// state is fresh or a call's, so each takes one at least; a count that cannot be counts as all
-fn taken(count: usize, left: usize) -> usize
-    requires { ⌜ 1 ≤ left ⌝ }
-    ensures { λ r. ⌜ (1 ≤ r) × (r ≤ left) ⌝ }
-{
-    if 0 < count && count <= left {
-        return count;
-    }
-    left
-}
-
 // At answer 3 no part is open any more. Which it was, the state before that call says: the part's
 // start text had an answer, at which an earlier call stopped
 fn open_part(before: State) -> u8 {
@@ -62,46 +60,119 @@ fn open_part(before: State) -> u8 {
     f.part
 }
 
-// Gives the bytes to the receiver, counts its answers, and tells of each part that is complete
-fn hear(state: State, total: u64, grid: &mut [u8], bytes: &[u8], counts: &mut [u64]) -> State {
+// Counts the answer at the last of `taken` bytes more, writes the block of a part that is complete,
+// and gives whether it is written
+fn report(
+    answer: Answer,
+    total: u64,
+    taken: usize,
+    part: u8,
+    state: State,
+    grid: &[u8],
+    counts: &mut [u64],
+) -> bool {
+    let number = number_of(answer);
+    let count = totals::counted(counts, number);
+    part::block(number, count, more(total, taken), part, state, grid)
+}
+
+// Gives the bytes to the receiver, counts its answers, and writes the block of each part that is
+// complete
+fn feed(state: State, total: u64, grid: &mut [u8], bytes: &[u8], counts: &mut [u64]) -> FeedResult {
     let mut s = state;
     let mut at = 0;
     while at < bytes.len() {
         let part = open_part(s);
-        let got = slice_call(s, grid, &bytes[at..]);
-        at += taken(got.count, bytes.len() - at);
-        s = got.state;
-        let answer = got.answer;
-        let number = number_of(answer);
-        let count = totals::counted(counts, number);
-        part::block(number, count, more(total, at), part, s, grid);
+        let result = slice_call(s, grid, &bytes[at..]);
+        let taken = result.count;
+        if taken == 0 {
+            return FeedResult {
+                state: s,
+                total,
+                written: true,
+                goes_on: false,
+            };
+        }
+        at += taken;
+        let next = result.state;
+        s = next;
+        let answer = result.answer;
+        if !report(answer, total, at, part, s, grid, counts) {
+            return FeedResult {
+                state: s,
+                total,
+                written: false,
+                goes_on: false,
+            };
+        }
     }
-    s
+    FeedResult {
+        state: s,
+        total: more(total, at),
+        written: true,
+        goes_on: true,
+    }
 }
 
-// Gives how many bytes there were. A proved loop has to end, and nothing says that the input does:
-// the loop counts its turns down, from a number that no run uses up
-fn hear_all(grid: &mut [u8], buffer: &mut [u8], counts: &mut [u64]) -> u64 {
-    let mut s = fresh();
-    let mut total = 0;
+// Reads once, as much as there is, and gives it to the receiver. A program has no exit status, so a
+// read that failed is told on standard error
+fn read_and_feed(
+    fed: FeedResult,
+    grid: &mut [u8],
+    buffer: &mut [u8],
+    counts: &mut [u64],
+) -> FeedResult {
+    let state = fed.state;
+    let read = libc::read(STDIN_FILENO, buffer);
+    if read < 0 {
+        io::write_all(STDERR_FILENO, b"decode: standard input cannot be read\n");
+    }
+    if read <= 0 {
+        return FeedResult {
+            state,
+            total: fed.total,
+            written: true,
+            goes_on: false,
+        };
+    }
+    let n = io::count(read, buffer);
+    feed(state, fed.total, grid, &buffer[..n], counts)
+}
+
+// A proved loop has to end, and nothing says that the input does: the loop counts its turns down,
+// from a number that no run uses up
+fn feed_all(grid: &mut [u8], buffer: &mut [u8], counts: &mut [u64]) -> FeedResult {
+    let mut fed = FeedResult {
+        state: fresh(),
+        total: 0,
+        written: true,
+        goes_on: true,
+    };
     let mut turns = u64::MAX;
     while turns > 0 {
-        let got = libc::read(STDIN_FILENO, buffer);
-        if got <= 0 {
-            return total;
+        fed = read_and_feed(fed, grid, buffer, counts);
+        if !fed.goes_on {
+            return fed;
         }
-        let n = io::count(got, buffer);
-        s = hear(s, total, grid, &buffer[..n], counts);
-        total = more(total, n);
         turns -= 1;
     }
-    total
+    fed
 }
 
+// A write that failed is told on standard error too
 fn main() {
     let mut grid = [0u8; 20000];
     let mut buffer = io::large_buffer();
     let mut counts = [0u64; 23];
-    let total = hear_all(&mut grid, &mut buffer, &mut counts);
-    totals::last_lines(&counts, total);
+    let fed = feed_all(&mut grid, &mut buffer, &mut counts);
+    let mut written = fed.written;
+    if written {
+        written = totals::last_lines(&counts, fed.total);
+    }
+    if !written {
+        io::write_all(
+            STDERR_FILENO,
+            b"decode: standard output cannot be written\n",
+        );
+    }
 }

@@ -13,8 +13,8 @@ use crate::line::put_number;
 use crate::names::put_picture;
 use crate::names::put_radar;
 use crate::quality::values;
-use states::state::State;
-use texts::header::Header;
+use receiver_state::state::State;
+use text::header::Header;
 
 fn part_line(out: &mut Buffer, number: u64, total: u64) -> usize {
     let numbered = put_labelled(out, 0, b"part ", number, 0);
@@ -128,10 +128,11 @@ fn mesh_lines(out: &mut Buffer, used: usize, part: u8, grid: &[u8]) -> usize {
     }
 }
 
-// At answer 3, writes the block of the part that the state and the grid then hold
-pub fn block(answer: u8, number: u64, total: u64, part: u8, state: State, grid: &[u8]) {
+// At answer 3, writes the block of the part that the state and the grid then hold, and gives whether
+// it is written; at any other answer there is nothing to write
+pub fn block(answer: u8, number: u64, total: u64, part: u8, state: State, grid: &[u8]) -> bool {
     if answer != 3 {
-        return;
+        return true;
     }
     let header = state.header;
     let modes = state.modes;
@@ -140,5 +141,5 @@ pub fn block(answer: u8, number: u64, total: u64, part: u8, state: State, grid: 
     used = header_lines(&mut out, used, part, header, modes);
     used = mesh_lines(&mut out, used, part, grid);
     used = put(&mut out, used, b"\n\n");
-    flush(&out, used);
+    flush(&out, used)
 }

@@ -70,11 +70,11 @@ fn answer_lines(out: &mut Buffer, counts: &[u64; 23]) -> usize {
     at
 }
 
-// The lines at the end
-pub fn last_lines(counts: &[u64; 23], total: u64) {
+// Writes the lines at the end, and gives whether they are written
+pub fn last_lines(counts: &[u64; 23], total: u64) -> bool {
     let mut out = io::buffer();
     let answered = answer_lines(&mut out, counts);
     let counted = put_labelled(&mut out, answered, b"bytes ", total, 0);
     let ended = put_byte(&mut out, counted, b'\n');
-    flush(&out, ended);
+    flush(&out, ended)
 }

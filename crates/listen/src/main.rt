@@ -1,20 +1,27 @@
 // Listens to the stream on standard input, to its end, and prints a line for each answer but 0:
 // bytes read so far, a space, the answer.
+use libc::STDERR_FILENO;
 use libc::STDIN_FILENO;
 use libc::STDOUT_FILENO;
-use slice_receiver::calls::slice_call;
-use states::answer::number_of;
-use states::state::State;
-use states::state::fresh;
+use receiver_slice_call::calls::slice_call;
+use receiver_state::answer::number_of;
+use receiver_state::state::State;
+use receiver_state::state::fresh;
 ghost use mathlib.Core.Path.{_≡_};
 ghost use Prim.Native.Nat.{_+_, _≤_};
 ghost use lib.ListN.{length};
 
-// The receiver after some bytes, how many they were, and whether the input goes on
-struct Heard {
+// The receiver after some bytes, how many they were, and whether to go on
+struct FeedResult {
     state: State,
     total: u64,
     goes_on: bool,
+}
+
+// How many bytes wait in the output, and whether all others were written
+struct Waiting {
+    used: usize,
+    written: bool,
 }
 
 // Bytes read so far; a count of 64 bits stays at its end, which no input reaches
@@ -59,103 +66,123 @@ fn put_line(out: &mut [u8], at: usize, total: u64, number: u8) -> usize
     put(out, ended, b"\n")
 }
 
-// Writes the first `used` bytes of `out`
-fn flush(out: &[u8], used: usize)
+// Writes the first `used` bytes of `out`, and gives whether they are written
+fn flush(out: &[u8], used: usize) -> bool
     requires { ⌜ used ≤ length (now out) ⌝ }
 {
-    io::write_all(STDOUT_FILENO, &out[..used]);
+    io::write_all(STDOUT_FILENO, &out[..used])
 }
 
-// Puts the line of an answer other than 0 after the `used` bytes that wait in `out`, which are
-// written first where a line might not fit, and gives how many wait now
-fn tell(out: &mut [u8], used: usize, total: u64, number: u8) -> usize
-    requires { ⌜ (64 ≤ length (now out)) × (used ≤ length (now out)) ⌝ }
-    ensures { λ r. ⌜ r ≤ length (now (out .entry)) ⌝ }
+// Puts the line of an answer other than 0 behind the bytes that wait in `out`, which are written
+// first where a line might not fit
+fn put_answer(out: &mut [u8], waiting: Waiting, total: u64, number: u8) -> Waiting
+    requires { ⌜ (64 ≤ length (now out)) × (waiting .used ≤ length (now out)) ⌝ }
+    ensures { λ r. ⌜ r .used ≤ length (now (out .entry)) ⌝ }
 {
     if number == 0 {
-        return used;
+        return waiting;
     }
+    let used = waiting.used;
     if out.len() - used < 64 {
-        flush(out, used);
-        return put_line(out, 0, total, number);
+        let flushed = flush(out, used);
+        let first = put_line(out, 0, total, number);
+        return Waiting {
+            used: first,
+            written: flushed & waiting.written,
+        };
     }
-    put_line(out, used, total, number)
+    let behind = put_line(out, used, total, number);
+    Waiting {
+        used: behind,
+        written: waiting.written,
+    }
 }
 
-// A count of bytes taken that is more than there were counts as none
-fn within(count: usize, left: usize) -> usize
-    ensures { λ r. ⌜ r ≤ left ⌝ }
+// Writes what waits. A program has no exit status, so a write that failed is told on standard error
+fn write_waiting(out: &[u8], waiting: Waiting) -> bool
+    requires { ⌜ waiting .used ≤ length (now out) ⌝ }
 {
-    if left < count {
-        return 0;
+    let used = waiting.used;
+    let written = flush(out, used) & waiting.written;
+    if !written {
+        io::write_all(
+            STDERR_FILENO,
+            b"listen: standard output cannot be written\n",
+        );
     }
-    count
+    written
 }
 
 // Gives the bytes to the receiver, and writes the lines of all answers at the end, so that a
 // trickling input is answered at once
-fn hear(state: State, total: u64, grid: &mut [u8], bytes: &[u8], out: &mut [u8]) -> Heard
+fn feed(state: State, total: u64, grid: &mut [u8], bytes: &[u8], out: &mut [u8]) -> FeedResult
     requires { ⌜ 64 ≤ length (now out) ⌝ }
 {
     let mut s = state;
     let mut at = 0;
-    let mut used = 0;
+    let mut waiting = Waiting {
+        used: 0,
+        written: true,
+    };
     while at < bytes.len() {
-        let got = slice_call(s, grid, &bytes[at..]);
-        let count = within(got.count, bytes.len() - at);
+        let result = slice_call(s, grid, &bytes[at..]);
+        let count = result.count;
         if count == 0 {
-            flush(out, used);
-            return Heard {
+            write_waiting(out, waiting);
+            return FeedResult {
                 state: s,
                 total,
                 goes_on: false,
             };
         }
         at += count;
-        let next = got.state;
+        let next = result.state;
         s = next;
-        let answer = got.answer;
-        used = tell(out, used, more(total, at), number_of(answer));
+        let answer = result.answer;
+        waiting = put_answer(out, waiting, more(total, at), number_of(answer));
     }
-    flush(out, used);
-    Heard {
+    let written = write_waiting(out, waiting);
+    FeedResult {
         state: s,
         total: more(total, at),
-        goes_on: true,
+        goes_on: written,
     }
 }
 
-// Reads once, as much as there is, and hears it
-fn hear_some(heard: Heard, grid: &mut [u8], buffer: &mut [u8], out: &mut [u8]) -> Heard
+// Reads once, as much as there is, and gives it to the receiver
+fn read_and_feed(fed: FeedResult, grid: &mut [u8], buffer: &mut [u8], out: &mut [u8]) -> FeedResult
     requires { ⌜ 64 ≤ length (now out) ⌝ }
 {
-    let state = heard.state;
-    let got = libc::read(STDIN_FILENO, buffer);
-    if got <= 0 {
-        return Heard {
+    let state = fed.state;
+    let read = libc::read(STDIN_FILENO, buffer);
+    if read < 0 {
+        io::write_all(STDERR_FILENO, b"listen: standard input cannot be read\n");
+    }
+    if read <= 0 {
+        return FeedResult {
             state,
-            total: heard.total,
+            total: fed.total,
             goes_on: false,
         };
     }
-    let n = io::count(got, buffer);
-    hear(state, heard.total, grid, &buffer[..n], out)
+    let n = io::count(read, buffer);
+    feed(state, fed.total, grid, &buffer[..n], out)
 }
 
 // A proved loop has to end, and nothing says that the input does: the loop counts its turns down,
 // from a number that no run uses up
-fn hear_all(grid: &mut [u8], buffer: &mut [u8], out: &mut [u8])
+fn feed_all(grid: &mut [u8], buffer: &mut [u8], out: &mut [u8])
     requires { ⌜ 64 ≤ length (now out) ⌝ }
 {
-    let mut heard = Heard {
+    let mut fed = FeedResult {
         state: fresh(),
         total: 0,
         goes_on: true,
     };
     let mut turns = u64::MAX;
     while turns > 0 {
-        heard = hear_some(heard, grid, buffer, out);
-        if !heard.goes_on {
+        fed = read_and_feed(fed, grid, buffer, out);
+        if !fed.goes_on {
             return;
         }
         turns -= 1;
@@ -166,5 +193,5 @@ fn main() {
     let mut grid = [0u8; 20000];
     let mut buffer = io::large_buffer();
     let mut out = io::buffer();
-    hear_all(&mut grid, &mut buffer, &mut out);
+    feed_all(&mut grid, &mut buffer, &mut out);
 }

@@ -1,20 +1,21 @@
 -- The rules of blocks and of a part, each as a fact under its own name. Assumes nothing.
-use mathlib.Core.Path.{_≡_}
+use mathlib.Core.Path.{_≡_, ap}
+use native.Mathlib.Omega.{arith}
 use mathlib.Core.Bool.{true}
-use mathlib.Core.List.{List}
-use Prim.Native.Nat.{ℕ, _+_}
+use mathlib.Core.List.{List, _∷_, []}
+use Prim.Native.Nat.{ℕ, _+_, _≤_}
 use lib.Dec.{eqb}
 use lib.ListN.{length, drop}
 use borrow.Author.Tests.{eqb-true, eq-eqb}
-use Rattle.texts.specs.Bytes.{_!_, every, allOf}
-use Rattle.texts.specs.Text.{FD}
-use Rattle.texts.specs.Pictures.{isPictureCode}
-use Rattle.texts.specs.Kinds.{partOf, kindOf, isStartKind, isDataKind, isEndKind, blockLength}
-use Rattle.texts.specs.StartBlock.{hasMode, isClockByte, isTimeText, timeTextOf, isRadarList, radarsOf, modeOf, isStartBlock}
-use Rattle.texts.specs.DataBlock.{isPayloadByte, payloadOf, isDataBlock}
-use Rattle.texts.specs.EndBlock.{radarPlaces, isModeByte, isEndBlock, modesOf, highest}
-use Rattle.texts.specs.Part.{Part, startPart, dataTextsAfter, inOrder, isPart}
-use Rattle.text_laws.proofs.Rules.{rule-at, and-split}
+use Rattle.general_laws.specs.Bytes.{_!_, every, allOf}
+use Rattle.text.specs.Text.{FD}
+use Rattle.text.specs.Pictures.{isPictureCode}
+use Rattle.text.specs.Kinds.{partOf, kindOf, isStartKind, isDataKind, isEndKind, blockLength}
+use Rattle.text.specs.StartBlock.{hasMode, isClockByte, isTimeText, timeTextOf, isRadarList, radarsOf, modeOf, isStartBlock}
+use Rattle.text.specs.DataBlock.{isPayloadByte, payloadOf, isDataBlock}
+use Rattle.text.specs.EndBlock.{radarPlaces, isModeByte, isEndBlock, modesOf, highest}
+use Rattle.text.specs.Part.{Part, startPart, dataTextsAfter, inOrder, isPart}
+use Rattle.general_laws.proofs.Tests.{rule-at, and-split}
 
 pub record StartRules (block : List ℕ) : Type 0 where
   pub long : length block ≡ 32
@@ -141,3 +142,10 @@ part-keeps p r =
       eq-eqb _ _ (r .endKind),
       eq-eqb _ _ (r .mode),
     )
+
+-- a block is `FD`, picture code, kind and the bytes behind them
+pub split-3 : (b : List ℕ) → 3 ≤ length b → b ! 0 ≡ FD → b ≡ FD ∷ b ! 1 ∷ b ! 2 ∷ drop 3 b
+split-3 [] l e = absurd (omega arith)
+split-3 (x ∷ []) l e = absurd (omega arith)
+split-3 (x ∷ y ∷ []) l e = absurd (omega arith)
+split-3 (x ∷ y ∷ z ∷ b) l e = ap (λ t. t ∷ y ∷ z ∷ b) e

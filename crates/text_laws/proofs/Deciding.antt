@@ -7,13 +7,13 @@ use Prim.Native.Nat.{ℕ, zero, suc, _+_}
 use lib.Dec.{eqb, ltb}
 use lib.ListN.{length, List·getD-eq-default}
 use borrow.Author.Tests.{eqb-true, eqb-false, eq-eqb, ne-eqb, ltb-true, ltb-false, not-true}
-use Rattle.texts.specs.Bytes.{_!_, every, allOf, isIn, same, bit}
-use Rattle.texts.specs.Text.{textOf}
-use Rattle.texts.specs.StartBlock.{modeOf, hasMode, isRadarCode, radarCodes, rising, isRadarList, isStartBlock}
-use Rattle.texts.specs.DataBlock.{isDataBlock}
-use Rattle.texts.specs.EndBlock.{radarPlaces, isModeByte, isEndBlock}
-use Rattle.texts.specs.Part.{Block, startBlock, dataBlock, endBlock, UndamagedText, partBytes, isPart, UndamagedPart, blockIn, radarFor, radarsFor, isBlock, isUndamagedText, cutPart, isUndamagedPart}
-use Rattle.text_laws.proofs.Rules.{by-test, never, and-split, and-join, or-split, rule-at, every-at, every-in, same-eq, same-refl}
+use Rattle.general_laws.specs.Bytes.{_!_, every, allOf, isIn, same, bit}
+use Rattle.text.specs.Text.{textOf}
+use Rattle.text.specs.StartBlock.{modeOf, hasMode, isRadarCode, radarCodes, rising, isRadarList, isStartBlock}
+use Rattle.text.specs.DataBlock.{isDataBlock}
+use Rattle.text.specs.EndBlock.{radarPlaces, isModeByte, isEndBlock}
+use Rattle.text.specs.Part.{Block, startBlock, dataBlock, endBlock, UndamagedText, partBytes, isPart, UndamagedPart, blockIn, radarFor, radarsFor, isBlock, isUndamagedText, cutPart, isUndamagedPart}
+use Rattle.general_laws.proofs.Tests.{by-test, never, and-split, and-join, or-split, rule-at, every-at, every-in, same-eq, same-refl}
 use Rattle.text_laws.proofs.Framing.{block-in-text}
 use Rattle.text_laws.proofs.Blocks.{EndRules, end-rules, end-keeps}
 use Rattle.text_laws.proofs.Parts.{cut-part}

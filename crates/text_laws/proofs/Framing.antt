@@ -6,9 +6,9 @@ use Prim.Native.Nat.{ℕ, suc, _+_, _-_}
 use native.Mathlib.Omega.{arith}
 use lib.ListN.{length, take, drop, length-append}
 use lib.Seq.{take-at}
-use Rattle.texts.specs.Text.{EOR, controlA, controlB, xorAll, checkByte, textOf}
-use Rattle.texts.specs.Part.{blockIn, AlteredTo, here, there, UndamagedText}
-use Rattle.texts.proofs.Xor.{xor-cancel-left, xor-cancel-right}
+use Rattle.text.specs.Text.{EOR, controlA, controlB, xorAll, checkByte, textOf}
+use Rattle.text.specs.Part.{blockIn, AlteredTo, here, there, UndamagedText}
+use Rattle.general_laws.proofs.Bits.{xor-cancel-left, xor-cancel-right}
 
 pub text-length : (block : List ℕ) → length (textOf block) ≡ length block + 8
 unfolding textOf

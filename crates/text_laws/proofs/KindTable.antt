@@ -7,10 +7,10 @@ use Prim.Native.Nat.{ℕ, zero, suc, _≤_, _<_}
 use native.Mathlib.Nat.{le-refl}
 use native.Mathlib.Omega.{arith}
 use lib.Dec.{eqb, leb, lit≤}
-use borrow.Author.Tests.{eqb-true, leb-true, ne-eqb}
-use Rattle.texts.specs.Kinds.{Kind, kind, kinds, byCode, byText, isPartNumber, partOf, textNumber, kindOf, isKind, isStartKind, isDataKind, isEndKind, dataBlockLength, blockLength, dataTexts}
-use Rattle.texts.proofs.Finite.{same-tests}
-use Rattle.text_laws.proofs.Rules.{by-test, by-if, never, and-split}
+use borrow.Author.Tests.{eqb-true, leb-true, ne-eqb, eqb-false}
+use Rattle.text.specs.Kinds.{Kind, kind, kinds, byCode, byText, isPartNumber, partOf, textNumber, kindOf, isKind, isStartKind, isDataKind, isEndKind, dataBlockLength, blockLength, dataTexts}
+use Rattle.general_laws.proofs.Computed.{same-tests}
+use Rattle.general_laws.proofs.Tests.{by-test, by-if, never, and-split}
 
 abbrev everyRow : (Kind → Bool) → List Kind → Bool
 everyRow test [] = true
@@ -150,3 +150,41 @@ module _ (k : ℕ) (h : k < 256) (s : isStartKind k ≡ false) (e : isEndKind k 
   -- a data kind, whose block has 103 bytes or more
   pub data-kind : (isDataKind k ≡ true) × (103 ≤ blockLength k)
   data-kind = let (is, long) = and-split _ _ (facts .1) in (is, leb-true _ _ long)
+
+-- ---- kinds of start and end texts, and how long a block is at least
+
+pub start-not-end : (k : ℕ) → isStartKind k ≡ true → isEndKind k ≡ false
+unfolding isStartKind isEndKind
+start-not-end k s =
+    let (a, b) = and-split (isKind k) (eqb (textNumber k) 0) s in
+    rw (a, eqb-true (textNumber k) 0 b)
+
+pub end-not-start : (k : ℕ) → isEndKind k ≡ true → isStartKind k ≡ false
+end-not-start k e = by-test (isStartKind k) (λ s. never (start-not-end k s) e) (λ s. s)
+
+-- the lengths
+pub block-least : (k : ℕ) → isKind k ≡ true → 32 ≤ blockLength k
+unfolding blockLength dataBlockLength isPartNumber
+block-least k h =
+    by-if (λ n. 32 ≤ n) (isDataKind k)
+    (λ _. by-if (λ n. 32 ≤ n) (eqb (partOf k) 1) (λ _. lit≤ tt)
+    (λ e. by-if (λ n. 32 ≤ n) (eqb (partOf k) 2) (λ _. lit≤ tt)
+    (λ f. by-if (λ n. 32 ≤ n) (eqb (partOf k) 3) (λ _. lit≤ tt) (λ g. absurd (none e f g)))))
+    (λ _. rw h (lit≤ tt))
+  where
+    none : eqb (partOf k) 1 ≡ false → eqb (partOf k) 2 ≡ false → eqb (partOf k) 3 ≡ false → ⊥
+    none e f g =
+        let (a, b) = and-split (leb 1 (partOf k)) (leb (partOf k) 3) (kind-part k h) in
+        omega (arith, leb-true 1 (partOf k) a, leb-true (partOf k) 3 b, eqb-false (partOf k) 1 e, eqb-false (partOf k) 2 f, eqb-false (partOf k) 3 g)
+
+pub start-block-length : (k : ℕ) → isStartKind k ≡ true → blockLength k ≡ 32
+unfolding blockLength isStartKind isDataKind
+start-block-length k h =
+    let (a, b) = and-split (isKind k) (eqb (textNumber k) 0) h in
+    rw (a, b)
+
+pub end-block-length : (k : ℕ) → isEndKind k ≡ true → blockLength k ≡ 32
+unfolding blockLength isEndKind isDataKind
+end-block-length k h =
+    let (a, b) = and-split (isKind k) (eqb (textNumber k) 11) h in
+    rw (a, b) (by-test (eqb (textNumber k) 0) (λ e. rw e) (λ e. rw e))

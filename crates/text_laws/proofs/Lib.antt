@@ -1,4 +1,3 @@
-pub mod Rules
 pub mod Framing
 pub mod KindTable
 pub mod Payload

@@ -11,15 +11,16 @@ use lib.Dec.{eqb, ltb}
 use lib.ListN.{length, take, drop, length-append, length-take, length-drop, List·getD-append}
 use lib.Seq.{getD-append-add, getD-drop, getD-take, take-suc}
 use borrow.Author.Tests.{eqb-true, ltb-true, ltb-false}
-use Rattle.texts.specs.Bytes.{_!_, bit, isIn}
-use Rattle.texts.specs.Text.{LPAD, SYN, DLE, FD, STX, controlA, controlB, opening, textOf}
-use Rattle.texts.specs.Pictures.{isPictureCode, pictureCodes}
-use Rattle.texts.specs.Kinds.{isKind, isStartKind, isDataKind, isEndKind, partOf, textNumber, kinds}
-use Rattle.texts.specs.StartBlock.{modeOf, hasMode, isClockByte, isTimeText, timeTextOf, digitPlaces, stopPlaces, isDigit, isRadarCode, radarCodes, rising, isRadarList, radarsOf}
-use Rattle.texts.specs.DataBlock.{isPayloadByte, payloadOf}
-use Rattle.texts.specs.EndBlock.{radarPlaces, isModeByte}
-use Rattle.texts.specs.Part.{Block, startBlock, dataBlock, endBlock, UndamagedText}
-use Rattle.text_laws.proofs.Rules.{by-test, never, and-split, or-split, rule-at, every-at, every-in, tabled}
+use Rattle.general_laws.specs.Bytes.{_!_, bit, isIn}
+use Rattle.text.specs.Text.{LPAD, SYN, DLE, FD, STX, controlA, controlB, opening, textOf}
+use Rattle.text.specs.Pictures.{isPictureCode, pictureCodes}
+use Rattle.text.specs.Kinds.{isKind, isStartKind, isDataKind, isEndKind, partOf, textNumber, kinds}
+use Rattle.text.specs.StartBlock.{modeOf, hasMode, isClockByte, isTimeText, timeTextOf, digitPlaces, stopPlaces, isDigit, isRadarCode, radarCodes, rising, isRadarList, radarsOf}
+use Rattle.text.specs.DataBlock.{isPayloadByte, payloadOf}
+use Rattle.text.specs.EndBlock.{radarPlaces, isModeByte}
+use Rattle.text.specs.Part.{Block, startBlock, dataBlock, endBlock, UndamagedText}
+use Rattle.general_laws.proofs.Tests.{by-test, never, and-split, or-split, rule-at, every-at, every-in}
+use Rattle.general_laws.proofs.Computed.{tabled}
 use Rattle.text_laws.proofs.Framing.{text-length, append-parts}
 use Rattle.text_laws.proofs.Payload.{payload-below}
 use Rattle.text_laws.proofs.Blocks.{StartRules, start-rules, DataRules, data-rules, EndRules, end-rules}

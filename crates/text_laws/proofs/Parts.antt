@@ -9,13 +9,13 @@ use lib.Dec.{eqb, lit≤}
 use lib.ListN.{length, take, drop, replicate, length-append, length-drop, length-replicate}
 use lib.Seq.{take-at, drop-at, drop-drop, take-take, getD-take, getD-drop}
 use borrow.Author.Tests.{eqb-true}
-use Rattle.texts.specs.Bytes.{_!_}
-use Rattle.texts.specs.Text.{controlB, textOf}
-use Rattle.texts.specs.Kinds.{isKind, partOf, kindOf, dataBlockLength, textLength, dataTexts, partLength}
-use Rattle.texts.specs.StartBlock.{noEchoOf, radarsOf}
-use Rattle.texts.specs.DataBlock.{payloadOf, isDataBlock}
-use Rattle.texts.specs.Part.{Part, textsOf, partBytes, isTextOf, inOrder, startPart, dataTextsAfter, isPart, UndamagedPart, gridLength, payloadsOf, zeros, gridOf, cutBlocks, cutPart}
-use Rattle.text_laws.proofs.Rules.{by-test, and-split}
+use Rattle.general_laws.specs.Bytes.{_!_}
+use Rattle.text.specs.Text.{controlB, textOf}
+use Rattle.text.specs.Kinds.{isKind, partOf, kindOf, dataBlockLength, textLength, dataTexts, partLength}
+use Rattle.text.specs.StartBlock.{noEchoOf, radarsOf}
+use Rattle.text.specs.DataBlock.{payloadOf, isDataBlock}
+use Rattle.text.specs.Part.{Part, textsOf, partBytes, isTextOf, inOrder, startPart, dataTextsAfter, isPart, UndamagedPart, gridLength, payloadsOf, zeros, gridOf, cutBlocks, cutPart}
+use Rattle.general_laws.proofs.Tests.{by-test, and-split}
 use Rattle.text_laws.proofs.Framing.{text-length}
 use Rattle.text_laws.proofs.Blocks.{start-rules, data-rules, end-rules, PartRules, part-rules}
 use Rattle.text_laws.proofs.KindTable.{kind-part, text-back, data-is-kind, start-is-kind, data-block-length}
@@ -231,3 +231,7 @@ grid-length p h =
     rw (payloads-length (datas-sized p h), rules p h .count) (payload-fits (startPart (p .start)) (noEchoOf (p .start ! 4))) in
     length-append (payloadsOf (p .datas)) (zeros (gridLength - length (payloadsOf (p .datas))))
     ∙ omega (arith, few, length-replicate {A = ℕ} (gridLength - length (payloadsOf (p .datas))) 0)
+
+pub zeros-long : (n : ℕ) → length (zeros n) ≡ n
+unfolding zeros
+zeros-long n = length-replicate {A = ℕ} n 0

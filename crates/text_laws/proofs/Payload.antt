@@ -6,10 +6,10 @@ use Prim.Native.Nat.{ℕ, _+_, _*_, _-_, _/_, _%_, _≤_, _<_}
 use native.Mathlib.Omega.{arith}
 use lib.Dec.{eqb, leb}
 use borrow.Author.Tests.{eqb-true, eqb-false, leb-true}
-use Rattle.texts.specs.Bytes.{bit}
-use Rattle.texts.specs.DataBlock.{oddLevel, evenLevel, oddMesh, evenMesh, isIntensityByte, isTopByte, isQualityByte, isPayloadByte}
-use Rattle.texts.proofs.Finite.{same-tests}
-use Rattle.text_laws.proofs.Rules.{by-test, never, and-split, or-split}
+use Rattle.general_laws.specs.Bytes.{bit}
+use Rattle.text.specs.DataBlock.{oddLevel, evenLevel, oddMesh, evenMesh, isIntensityByte, isTopByte, isQualityByte, isPayloadByte}
+use Rattle.general_laws.proofs.Computed.{same-tests}
+use Rattle.general_laws.proofs.Tests.{by-test, never, and-split, or-split}
 
 -- Payload never holds `FD`, `FE` or `FF`: its bytes are below these
 pub payload-below : (p b : ℕ) → isPayloadByte p b ≡ true → b < 0xFD

@@ -1,2 +1,2 @@
 -- The proofs of the functions. Assumes nothing.
-pub mod Puts
+pub mod PutTexts

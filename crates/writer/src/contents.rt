@@ -1,14 +1,14 @@
 // Start and end blocks from byte 3 on.
-use modes::status::highest_mode;
-use modes::status::mode_byte;
-use texts::bytes::put;
-use texts::header::Heading;
+use text::bytes::put;
+use text::header::WriterHeader;
+use text_status::status::highest_mode;
+use text_status::status::mode_byte;
 ghost use mathlib.Core.Path.{_≡_};
 ghost use mathlib.Core.Bool.{true};
 ghost use lib.Dec.{leb};
 ghost use Prim.Native.Nat.{_≤_};
-ghost use Rattle.texts.specs.Bytes.{every};
-ghost use Rattle.relay.specs.Written.{timeText, startContents, endContents};
+ghost use Rattle.general_laws.specs.Bytes.{every};
+ghost use Rattle.writer_spec.specs.Written.{timeText, startContents, endContents};
 
 // The time in ASCII, `YYYY.MM.DD.hh.mm`. Notice 49, 4(1)(1-1)(d)(イ)
 fn time_text(digits: [u8; 12]) -> [u8; 16]
@@ -37,18 +37,18 @@ fn time_text(digits: [u8; 12]) -> [u8; 16]
 
 // The start block from byte 3 on: NULL, status bytes, clock, time, radars.
 // Notice 49, 4(1)(1-1)(c)(イ) and (d)(イ)
-pub(crate) fn start_contents(noecho: bool, heading: Heading, modes: [u8; 8]) -> [u8; 29]
-    requires { ⌜ every (λ d. leb d 9) (heading .time) ≡ true ⌝ }
-    requires { ⌜ heading .clock ≤ 16383 ⌝ }
-    ensures { λ r. ⌜ r ≡ startContents noecho heading modes ⌝ }
+pub(crate) fn start_contents(noecho: bool, header: WriterHeader, modes: [u8; 8]) -> [u8; 29]
+    requires { ⌜ every (λ d. leb d 9) (header .time) ≡ true ⌝ }
+    requires { ⌜ header .clock ≤ 16383 ⌝ }
+    ensures { λ r. ⌜ r ≡ startContents noecho header modes ⌝ }
 {
     let status1 = if noecho { 0x08 } else { 0x00 };
     let status2 = mode_byte(highest_mode(modes));
-    let high = (heading.clock / 128) as u8;
-    let low = (heading.clock % 128) as u8;
-    let digits = heading.time;
+    let high = (header.clock / 128) as u8;
+    let low = (header.clock % 128) as u8;
+    let digits = header.time;
     let time = time_text(digits);
-    let radars = heading.radars;
+    let radars = header.radars;
     let mut contents = [0u8; 29];
     put(&mut contents, 1, &[status1, status2, high, low]);
     put(&mut contents, 5, &time);

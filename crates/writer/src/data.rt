@@ -1,19 +1,19 @@
 // Data texts, and the rule of a payload.
-use crate::text::write_text;
-use kinds::table::kind_of;
-use lengths::block::data_block_length;
-use lengths::part::data_texts;
-use lengths::part::payload_length;
-use texts::bytes::are_zero;
-use texts::payload::are_payload_bytes;
+use crate::one_text::write_text;
+use text::bytes::are_zero;
+use text::payload::are_payload_bytes;
+use text_kinds::table::kind_of;
+use text_lengths::block::data_block_length;
+use text_lengths::part::data_texts;
+use text_lengths::part::payload_length;
 ghost use mathlib.Core.Path.{_≡_};
 ghost use mathlib.Core.Bool.{true, false};
 ghost use Prim.Native.Nat.{_+_, _*_, _≤_};
 ghost use lib.ListN.{length};
 ghost use lib.Seq.{sets};
-ghost use Rattle.texts.specs.Kinds.{isPartNumber, dataBlockLength, dataTexts, payloadLength};
-ghost use Rattle.texts.specs.Part.{textsOf};
-ghost use Rattle.relay.specs.Written.{dataBlocks, isPayload, writesNoEcho};
+ghost use Rattle.text.specs.Kinds.{isPartNumber, dataBlockLength, dataTexts, payloadLength};
+ghost use Rattle.text.specs.Part.{textsOf};
+ghost use Rattle.writer_spec.specs.Written.{dataBlocks, isPayload, writesNoEcho};
 
 // Whether a part may carry this payload (01, row 33).
 // Notice 49, 4(1)(1-1)(d)(ウ), 4(1)(1-2)(d)(ウ), 4(2)(d)(ウ)

@@ -1,9 +1,9 @@
 // The writer (01, "The writer"): one part onto the line.
 //
-// From the contract to demand 2: `sent` reads a call's result and output as `relay` does, and the
+// From the contract to demand 2: `outcomeOf` reads a call's result and output as `writer_spec` does, and the
 // contract says that they are `writes` of what was handed in. Where `writes` refuses nothing, rows
-// 31 to 33 and the lengths of the arrays are `relay`'s `Taken`, and the output begins with the
-// bytes that it calls `written`. So `demand-2` (relay, proofs/Theorem) is about the bytes that this
+// 31 to 33 and the lengths of the arrays are `writer_spec`'s `Accepted`, and the output begins with the
+// bytes that it calls `written`. So `demand-2` (writer_spec, proofs/Theorem) is about the bytes that this
 // code writes: `readsBack` about all that it takes, and `rewritten` about what a receiver holds
 // after a part.
 use crate::contents::end_contents;
@@ -11,24 +11,24 @@ use crate::contents::start_contents;
 use crate::data::is_payload;
 use crate::data::write_datas;
 use crate::data::writes_no_echo;
-use crate::text::write_text;
-use headers::handed::is_handed;
-use kinds::table::kind_of;
-use lengths::part::part_length;
-use texts::header::Heading;
+use crate::one_text::write_text;
+use text::header::WriterHeader;
+use text_headers::writer_input::is_writer_input;
+use text_kinds::table::kind_of;
+use text_lengths::part::part_length;
 ghost use mathlib.Core.Path.{_≡_};
 ghost use mathlib.Core.Bool.{true};
 ghost use Prim.Native.Nat.{_≤_};
 ghost use lib.ListN.{length};
 ghost use lib.Seq.{sets};
-ghost use Rattle.texts.specs.Kinds.{isPartNumber, partLength};
-ghost use Rattle.texts.specs.Part.{partBytes};
-ghost use Rattle.texts.specs.Handed.{isHanded};
-ghost use Rattle.relay.specs.Written.{isPayload, writesNoEcho, writtenPart, writes};
-ghost use Rattle.writer.specs.Returned.{sent};
+ghost use Rattle.text.specs.Kinds.{isPartNumber, partLength};
+ghost use Rattle.text.specs.Part.{partBytes};
+ghost use Rattle.text.specs.WriterInput.{isWriterInput};
+ghost use Rattle.writer_spec.specs.Written.{isPayload, writesNoEcho, writtenPart, writes};
+ghost use Rattle.writer.specs.Returned.{outcomeOf};
 
 // The writer's answer: how many bytes it wrote, or a refusal, 31 to 34
-pub enum Wrote {
+pub enum WriteResult {
     Bytes(usize),
     Refused(u8),
 }
@@ -37,54 +37,54 @@ pub enum Wrote {
 // Notice 49, 4(1)(1-1)(a), 4(1)(1-2)(a), 4(2)(a)
 fn write_taken(
     part: u8,
-    heading: Heading,
+    header: WriterHeader,
     modes: [u8; 8],
     payload: &[u8],
     noecho: bool,
     output: &mut [u8],
 )
     requires { ⌜ isPartNumber part ≡ true ⌝ }
-    requires { ⌜ isHanded heading modes ≡ true ⌝ }
+    requires { ⌜ isWriterInput header modes ≡ true ⌝ }
     requires { ⌜ isPayload part (now payload) ≡ true ⌝ }
     requires { ⌜ noecho ≡ writesNoEcho part (now payload) ⌝ }
     requires { ⌜ partLength part noecho ≤ length (now output) ⌝ }
-    ensures { λ r. ⌜ now (output .exit) ≡ sets (now (output .entry)) 0 (partBytes (writtenPart part heading modes (now (payload .entry)))) ⌝ }
+    ensures { λ r. ⌜ now (output .exit) ≡ sets (now (output .entry)) 0 (partBytes (writtenPart part header modes (now (payload .entry)))) ⌝ }
 {
-    let start = start_contents(noecho, heading, modes);
-    write_text(output, heading.picture, kind_of(part, 0), &start);
+    let start = start_contents(noecho, header, modes);
+    write_text(output, header.picture, kind_of(part, 0), &start);
     if !noecho {
-        write_datas(output, part, heading.picture, payload);
+        write_datas(output, part, header.picture, payload);
     }
     let end = end_contents(modes);
     let at = part_length(part, noecho) - 40;
-    write_text(&mut output[at..], heading.picture, kind_of(part, 11), &end);
+    write_text(&mut output[at..], header.picture, kind_of(part, 11), &end);
 }
 
 // The writer. Refusals in order: 31 the part, 32 header or modes, 33 the payload, 34 the output's
 // length; each leaves the output as it was. Notice 49, 4(1)(1-1)(a), 4(1)(1-2)(a), 4(2)(a)
 pub fn write_part(
     part: u8,
-    heading: Heading,
+    header: WriterHeader,
     modes: [u8; 8],
     payload: &[u8],
     output: &mut [u8],
-) -> Wrote
-    ensures { λ r. ⌜ sent r (now (output .exit)) ≡ writes part heading modes (now (payload .entry)) (now (output .entry)) ⌝ }
+) -> WriteResult
+    ensures { λ r. ⌜ outcomeOf r (now (output .exit)) ≡ writes part header modes (now (payload .entry)) (now (output .entry)) ⌝ }
 {
     if (part == 0) | (3 < part) {
-        return Wrote::Refused(31);
+        return WriteResult::Refused(31);
     }
-    if !is_handed(heading, modes) {
-        return Wrote::Refused(32);
+    if !is_writer_input(header, modes) {
+        return WriteResult::Refused(32);
     }
     if !is_payload(part, payload) {
-        return Wrote::Refused(33);
+        return WriteResult::Refused(33);
     }
     let noecho = writes_no_echo(part, payload);
     let long = part_length(part, noecho);
     if output.len() < long {
-        return Wrote::Refused(34);
+        return WriteResult::Refused(34);
     }
-    write_taken(part, heading, modes, payload, noecho, output);
-    Wrote::Bytes(long)
+    write_taken(part, header, modes, payload, noecho, output);
+    WriteResult::Bytes(long)
 }

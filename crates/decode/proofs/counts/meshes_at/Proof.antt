@@ -1,7 +1,7 @@
 -- Level 14 is the last; below it, those at or above the next level are taken off. Assumes nothing.
 use mathlib.Core.Path.{ap, _∙_}
 use borrow.Author.Needs.{needs}
-use Rattle.grids.specs.Served.{found}
+use Rattle.service_levels.specs.Returned.{answerOf}
 use Rattle.decode.proofs.AtLevel.{at-top, at-less}
 use Rattle.decode.proofs.counts.meshes_at.Statement.{statement}
 use Rattle.decode.proofs.counts.meshes_at.Tie as tie
@@ -17,7 +17,7 @@ returns-2 c =
     let from = above .before in
     let tested = from .before in
     let a = tested .before .before .args in
-    ap found (c .less .ensures)
+    ap answerOf (c .less .ensures)
     ∙ at-less (a .grid .now) (a .level) _ _ (tested .if1 .left) (from .meshes-from2 .ensures) (above .meshes-from3 .ensures)
 
 pub meshes-at-spec : {M : Type 1} → statement M

@@ -7,11 +7,11 @@ use native.Mathlib.Omega.{arith}
 use lib.ListN.{length, set, drop, replicate, length-map, drop-of-length-le}
 use lib.Seq.{sets, drop-cons}
 use borrow.Author.Needs.{needs}
-use Rattle.texts.specs.Bytes.{_!_}
-use Rattle.texts.specs.StartBlock.{modeByte}
-use Rattle.texts.specs.Part.{zeros}
-use Rattle.relay.specs.Written.{endContents}
-use Rattle.writer.proofs.Puts.{sets-front}
+use Rattle.general_laws.specs.Bytes.{_!_}
+use Rattle.text.specs.StartBlock.{modeByte}
+use Rattle.text.specs.Part.{zeros}
+use Rattle.writer_spec.specs.Written.{endContents}
+use Rattle.writer.proofs.PutTexts.{sets-front}
 use Rattle.writer.proofs.contents.end_contents.Statement.{statement}
 use Rattle.writer.proofs.contents.end_contents.Tie as tie
 

@@ -6,16 +6,16 @@ use mathlib.Core.List.{List, _∷_, _++_}
 use Prim.Native.Nat.{ℕ}
 use lib.ListN.{length, replicate}
 use borrow.Author.Needs.{needs}
-use Rattle.texts.specs.Bytes.{putAt}
-use Rattle.texts.specs.StartBlock.{modeByte, clockBytes}
-use Rattle.texts.specs.EndBlock.{highest}
-use Rattle.texts.specs.declared.header.Heading.{Heading}
-use Rattle.texts.proofs.Tests.{by-place}
-use Rattle.relay.specs.Written.{statusByte, timeText, startContents}
+use Rattle.general_laws.specs.Bytes.{putAt}
+use Rattle.text.specs.StartBlock.{modeByte, clockBytes}
+use Rattle.text.specs.EndBlock.{highest}
+use Rattle.text.specs.declared.header.WriterHeader.{WriterHeader}
+use Rattle.general_laws.proofs.Places.{by-place}
+use Rattle.writer_spec.specs.Written.{statusByte, timeText, startContents}
 use Rattle.writer.proofs.contents.start_contents.Statement.{statement}
 use Rattle.writer.proofs.contents.start_contents.Tie as tie
 
-module _ (noEcho : Bool) (h : Heading) (modes : List ℕ) (eight : length (h .radars) ≡ 8) where
+module _ (noEcho : Bool) (h : WriterHeader) (modes : List ℕ) (eight : length (h .radars) ≡ 8) where
   -- status bytes and clock; then the time; then the radars, put into 29 zeros
   abbrev front : List ℕ → List ℕ → List ℕ → List ℕ
   front status time radars = putAt (putAt (putAt (replicate 29 0) 1 status) 5 time) 21 radars
@@ -48,7 +48,7 @@ returns c =
     let start = join .before in
     let a = start .args in
     let status : join .if1 .status1 ≡ statusByte (a .noecho) = ⊎-elim (λ w. w .1 ∙ rw (w .0 .taken)) (λ w. w .1 ∙ rw (w .0 .left)) (join .if1 .came) in
-    whole (a .noecho) (a .heading) (a .modes) (search (needs, start .good .1 .0 .1 .1 .1 .0)) status
+    whole (a .noecho) (a .header) (a .modes) (search (needs, start .good .1 .0 .1 .1 .1 .0)) status
     (mode .mode-byte .ensures ∙ ap modeByte (mode .before .highest-mode .ensures)) (time .time-text .ensures)
     (first .put .ensures) (second .put2 .ensures) (third .put3 .ensures)
 

@@ -8,9 +8,9 @@ use lib.Dec.{leb}
 use lib.ListN.{length}
 use borrow.Author.Needs.{needs}
 use borrow.Author.Tests.{leb-true}
-use Rattle.texts.specs.Bytes.{_!_, every}
-use Rattle.text_laws.proofs.Rules.{every-at}
-use Rattle.relay.specs.Written.{timeText}
+use Rattle.general_laws.specs.Bytes.{_!_, every}
+use Rattle.general_laws.proofs.Tests.{every-at}
+use Rattle.writer_spec.specs.Written.{timeText}
 use Rattle.writer.proofs.contents.time_text.Statement.{statement}
 use Rattle.writer.proofs.contents.time_text.Tie as tie
 

@@ -4,7 +4,7 @@ use mathlib.Core.Bool.{_&&_}
 use lib.Dec.{eqb}
 use lib.ListN.{length}
 use borrow.Author.Needs.{needs}
-use Rattle.relay.specs.Written.{isPayload}
+use Rattle.writer_spec.specs.Written.{isPayload}
 use Rattle.writer.proofs.data.is_payload.Statement.{statement}
 use Rattle.writer.proofs.data.is_payload.Tie as tie
 

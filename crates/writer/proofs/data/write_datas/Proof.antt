@@ -10,13 +10,13 @@ use lib.ListN.{length, take, drop, length-drop}
 use lib.Seq.{sets, length-sets, length-take-le, drop-drop}
 use borrow.Author.Needs.{needs}
 use borrow.Rule.Slice.PartAt.{part-to-end}
-use Rattle.texts.specs.Kinds.{kindOf, dataBlockLength, dataTexts, payloadLength}
-use Rattle.texts.specs.Text.{textOf}
-use Rattle.texts.specs.Part.{textsOf}
-use Rattle.texts.proofs.Longer.{width}
+use Rattle.text.specs.Kinds.{kindOf, dataBlockLength, dataTexts, payloadLength}
+use Rattle.text.specs.Text.{textOf}
+use Rattle.text.specs.Part.{textsOf}
+use Rattle.general_laws.proofs.Lists.{width}
 use Rattle.text_laws.proofs.KindTable.{data-least, few-texts}
-use Rattle.relay.specs.Written.{dataBlocks, blockOf}
-use Rattle.writer.proofs.Puts.{sets-lent, texts-on}
+use Rattle.writer_spec.specs.Written.{dataBlocks, blockOf}
+use Rattle.writer.proofs.PutTexts.{sets-lent, texts-on}
 use Rattle.writer.proofs.data.write_datas.Statement.{statement}
 use Rattle.writer.proofs.data.write_datas.Tie as tie
 

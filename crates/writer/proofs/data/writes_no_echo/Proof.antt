@@ -3,7 +3,7 @@ use mathlib.Core.Path.{ap}
 use mathlib.Core.Bool.{_&&_, not}
 use lib.Dec.{eqb}
 use borrow.Author.Needs.{needs}
-use Rattle.relay.specs.Written.{writesNoEcho}
+use Rattle.writer_spec.specs.Written.{writesNoEcho}
 use Rattle.writer.proofs.data.writes_no_echo.Statement.{statement}
 use Rattle.writer.proofs.data.writes_no_echo.Tie as tie
 

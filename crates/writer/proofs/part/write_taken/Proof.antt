@@ -11,26 +11,26 @@ use lib.Seq.{sets, length-sets}
 use borrow.Author.Needs.{needs}
 use borrow.Author.Tests.{leb-true, not-true, not-false}
 use borrow.Rule.Slice.PartAt.{part-to-end}
-use Rattle.texts.specs.Bytes.{every}
-use Rattle.texts.specs.Text.{textOf}
-use Rattle.texts.specs.Pictures.{isPictureCode}
-use Rattle.texts.specs.Kinds.{kindOf, dataTexts, partLength}
-use Rattle.texts.specs.StartBlock.{isTime, isRadarList}
-use Rattle.texts.specs.Part.{textsOf, partBytes}
-use Rattle.texts.specs.Handed.{isHeading, areModesFor, isHanded}
-use Rattle.texts.specs.declared.header.Heading.{Heading}
-use Rattle.text_laws.proofs.Rules.{and-split, rule-at}
+use Rattle.general_laws.specs.Bytes.{every}
+use Rattle.text.specs.Text.{textOf}
+use Rattle.text.specs.Pictures.{isPictureCode}
+use Rattle.text.specs.Kinds.{kindOf, dataTexts, partLength}
+use Rattle.text.specs.StartBlock.{isTime, isRadarList}
+use Rattle.text.specs.Part.{textsOf, partBytes}
+use Rattle.text.specs.WriterInput.{isWriterHeader, areModesFor, isWriterInput}
+use Rattle.text.specs.declared.header.WriterHeader.{WriterHeader}
+use Rattle.general_laws.proofs.Tests.{and-split, rule-at}
 use Rattle.text_laws.proofs.Framing.{text-length}
-use Rattle.relay.specs.Written.{blockOf, dataBlocks, startContents, endContents, writesNoEcho, writtenPart}
-use Rattle.writer.proofs.Puts.{sets-lent, part-long, part-put, paid, no-datas, start-long, end-long, data-bytes-long}
+use Rattle.writer_spec.specs.Written.{blockOf, dataBlocks, startContents, endContents, writesNoEcho, writtenPart}
+use Rattle.writer.proofs.PutTexts.{sets-lent, part-long, part-put, payload-long, no-datas, start-long, end-long, data-bytes-long}
 use Rattle.writer.proofs.part.write_taken.Statement.{statement}
 use Rattle.writer.proofs.part.write_taken.Tie as tie
 
--- what a start block's contents ask of a heading
-digits : (h : Heading) (modes : List ℕ) → isHanded h modes ≡ true → (every (λ d. leb d 9) (h .time) ≡ true) × (h .clock ≤ 16383)
-unfolding isHanded isHeading isTime
+-- what a start block's contents ask of a header
+digits : (h : WriterHeader) (modes : List ℕ) → isWriterInput h modes ≡ true → (every (λ d. leb d 9) (h .time) ≡ true) × (h .clock ≤ 16383)
+unfolding isWriterInput isWriterHeader isTime
 digits h modes t =
-    let rules = rule-at (isPictureCode (h .picture) ∷ leb (h .clock) 16383 ∷ isTime (h .time) ∷ isRadarList (h .radars) ∷ []) (and-split (isHeading h) (areModesFor (h .radars) modes) t .0) in
+    let rules = rule-at (isPictureCode (h .picture) ∷ leb (h .clock) 16383 ∷ isTime (h .time) ∷ isRadarList (h .radars) ∷ []) (and-split (isWriterHeader h) (areModesFor (h .radars) modes) t .0) in
     (and-split (every (λ d. leb d 9) (h .time)) _ (rules 2) .0, leb-true (h .clock) 16383 (rules 1))
 
 module _ (output first : List ℕ) (part picture : ℕ) (payload : List ℕ) (noEcho : Bool) {now : List ℕ} where
@@ -54,41 +54,41 @@ joined :
     (c : tie.Joined1) →
     let a = c .before .before .before .before .before .before .before .before .before .before .args in
     c .if1 .output
-    ≡ sets (sets (a .output .now) 0 (textOf (blockOf (a .heading .picture) (kindOf (a .part) 0) (startContents (a .noecho) (a .heading) (a .modes))))) 40
-    (textsOf (dataBlocks (a .part) (a .heading .picture) 1 (dataTexts (a .part) (a .noecho)) (a .payload .now)))
+    ≡ sets (sets (a .output .now) 0 (textOf (blockOf (a .header .picture) (kindOf (a .part) 0) (startContents (a .noecho) (a .header) (a .modes))))) 40
+    (textsOf (dataBlocks (a .part) (a .header .picture) 1 (dataTexts (a .part) (a .noecho)) (a .payload .now)))
 joined c =
     let start = c .before .before .before .before .before .before .before .before .before .before in
     let a = start .args in
     let first =
     c .before .before .before .write-text .ensures
-    ∙ ap₂ (λ k s. sets (a .output .now) 0 (textOf (blockOf (a .heading .picture) k s))) (c .before .before .before .before .before .kind-of .ensures) (c .before .before .before .before .before .before .before .start-contents .ensures) in
+    ∙ ap₂ (λ k s. sets (a .output .now) 0 (textOf (blockOf (a .header .picture) k s))) (c .before .before .before .before .before .kind-of .ensures) (c .before .before .before .before .before .before .before .start-contents .ensures) in
     ⊎-elim
-    (λ w. with-datas _ _ (a .part) (a .heading .picture) (a .payload .now) (a .noecho) (w .0 .taken) (w .5 ∙ w .2 .ensures) first)
-    (λ w. without-datas _ _ (a .part) (a .heading .picture) (a .payload .now) (a .noecho) (w .0 .left) (start .pre .1 .1 .1 .0) (w .1) first)
+    (λ w. with-datas _ _ (a .part) (a .header .picture) (a .payload .now) (a .noecho) (w .0 .taken) (w .5 ∙ w .2 .ensures) first)
+    (λ w. without-datas _ _ (a .part) (a .header .picture) (a .payload .now) (a .noecho) (w .0 .left) (start .pre .1 .1 .1 .0) (w .1) first)
     (c .if1 .came)
 
 joined-long : (c : tie.Joined1) → length (c .if1 .output) ≡ length (c .before .before .before .before .before .before .before .before .before .before .args .output .now)
 joined-long c =
     let a = c .before .before .before .before .before .before .before .before .before .before .args in
-    let text = textOf (blockOf (a .heading .picture) (kindOf (a .part) 0) (startContents (a .noecho) (a .heading) (a .modes))) in
+    let text = textOf (blockOf (a .header .picture) (kindOf (a .part) 0) (startContents (a .noecho) (a .header) (a .modes))) in
     ap length (joined c)
-    ∙ length-sets (sets (a .output .now) 0 text) 40 (textsOf (dataBlocks (a .part) (a .heading .picture) 1 (dataTexts (a .part) (a .noecho)) (a .payload .now)))
+    ∙ length-sets (sets (a .output .now) 0 text) 40 (textsOf (dataBlocks (a .part) (a .header .picture) 1 (dataTexts (a .part) (a .noecho)) (a .payload .now)))
     ∙ length-sets (a .output .now) 0 text
 
 start-contents-requires : tie.Need-start-contents-requires
 start-contents-requires c κs =
     let start = c .before .before in
-    digits (start .args .heading) (start .args .modes) (start .pre .1 .0)
+    digits (start .args .header) (start .args .modes) (start .pre .1 .0)
 
 write-text-requires : tie.Need-write-text-requires
 write-text-requires c κs =
     let start = c .before .before .before .before .before .before in
     let a = start .args in
-    let eight : length (a .heading .radars) ≡ 8 = search (needs, start .good) in
+    let eight : length (a .header .radars) ≡ 8 = search (needs, start .good) in
     omega (
       arith,
       ap length (c .before .before .before .start-contents .ensures),
-      start-long (a .noecho) (a .heading) (a .modes) eight,
+      start-long (a .noecho) (a .header) (a .modes) eight,
       part-long (a .part) (a .noecho) (start .pre .0),
       start .pre .1 .1 .1 .1,
     )
@@ -100,7 +100,7 @@ write-datas-requires c κs =
     let same : length (c .before .before .before .before .write-text .last .0) ≡ length (a .output .now) = ap length (c .before .before .before .before .write-text .ensures) ∙ simp length-sets in (
       start .pre .0,
       (
-        paid (a .part) (a .payload .now) (start .pre .1 .1 .0),
+        payload-long (a .part) (a .payload .now) (start .pre .1 .1 .0),
         omega (
           arith,
           same,
@@ -143,11 +143,11 @@ unfolding partBytes writtenPart
 returns c =
     let start = c .before .before .before .before .before .before .before .before .before .before .before .before .before .before .before .before .before .before in
     let a = start .args in
-    let picture = a .heading .picture in
+    let picture = a .header .picture in
     let output = c .before .before .before .before .before .before .before .before .if1 .output in
     let at = c .before .before .before .before .before .before .part-length .result - 40 in
-    let eight : length (a .heading .radars) ≡ 8 = search (needs, start .good) in
-    let block = blockOf picture (kindOf (a .part) 0) (startContents (a .noecho) (a .heading) (a .modes)) in
+    let eight : length (a .header .radars) ≡ 8 = search (needs, start .good) in
+    let block = blockOf picture (kindOf (a .part) 0) (startContents (a .noecho) (a .header) (a .modes)) in
     let datas = textsOf (dataBlocks (a .part) picture 1 (dataTexts (a .part) (a .noecho)) (a .payload .now)) in
     let end = textOf (blockOf picture (kindOf (a .part) 11) (endContents (a .modes))) in
     let place : at ≡ 40 + length datas =
@@ -155,18 +155,18 @@ returns c =
       arith,
       c .before .before .before .before .before .before .part-length .ensures,
       part-long (a .part) (a .noecho) (start .pre .0),
-      data-bytes-long (a .part) picture (a .payload .now) (a .noecho) (start .pre .0) (paid (a .part) (a .payload .now) (start .pre .1 .1 .0)),
+      data-bytes-long (a .part) picture (a .payload .now) (a .noecho) (start .pre .0) (payload-long (a .part) (a .payload .now) (start .pre .1 .1 .0)),
     ) in
     sets-lent output at (textOf (blockOf picture (c .before .before .before .before .kind-of2 .result) (c .before .before .before .before .before .before .before .end-contents .result))) (c .before .before .write-text2 .ensures)
     ∙ ap₂ (λ k e. sets output at (textOf (blockOf picture k e))) (c .before .before .before .before .kind-of2 .ensures) (c .before .before .before .before .before .before .before .end-contents .ensures)
     ∙ ap₂ (λ l n. sets l n end) (joined (c .before .before .before .before .before .before .before .before)) place
-    ∙ part-put (a .output .now) (textOf block) datas end (omega (arith, text-length block, start-long (a .noecho) (a .heading) (a .modes) eight))
-    ∙ ap (λ t. sets (a .output .now) 0 (textOf (blockOf picture (kindOf (a .part) 0) (startContents t (a .heading) (a .modes))) ++ (textsOf (dataBlocks (a .part) picture 1 (dataTexts (a .part) t) (a .payload .now)) ++ end))) (start .pre .1 .1 .1 .0)
+    ∙ part-put (a .output .now) (textOf block) datas end (omega (arith, text-length block, start-long (a .noecho) (a .header) (a .modes) eight))
+    ∙ ap (λ t. sets (a .output .now) 0 (textOf (blockOf picture (kindOf (a .part) 0) (startContents t (a .header) (a .modes))) ++ (textsOf (dataBlocks (a .part) picture 1 (dataTexts (a .part) t) (a .payload .now)) ++ end))) (start .pre .1 .1 .1 .0)
 
 same-length : tie.Need-same-length
 same-length c =
     let a = c .before .before .before .before .before .before .before .before .before .before .before .before .before .before .before .before .before .before .args in
-    ap length (returns c) ∙ length-sets (a .output .now) 0 (partBytes (writtenPart (a .part) (a .heading) (a .modes) (a .payload .now)))
+    ap length (returns c) ∙ length-sets (a .output .now) 0 (partBytes (writtenPart (a .part) (a .header) (a .modes) (a .payload .now)))
 
 pub write-taken-spec : {M : Type 1} → statement M
 write-taken-spec =

@@ -1,4 +1,0 @@
-// Layer 1, calendar: the observation time.
-// Every function answers for every value of its parameters, by an equation with a definition of `texts`.
-pub mod days; // leap years, months, dates
-pub mod time; // the twelve digits of a time

@@ -1,3 +1,0 @@
--- Bytes between texts, and whole start and end texts, many bytes at once.
-pub mod Waiting
-pub mod Wholes

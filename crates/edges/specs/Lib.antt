@@ -1,2 +1,0 @@
--- The edges of texts, many bytes at once, in the code's terms. Assumes nothing.
-pub mod Ahead

@@ -1,4 +1,0 @@
-// Layer 2: the edges of texts, many bytes at once.
-mod between; // bytes between texts
-mod whole; // a whole start or end text
-pub mod ahead; // both, one behind the other

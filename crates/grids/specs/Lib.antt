@@ -1,3 +1,0 @@
--- 01's section "Services", the ones on grids and clocks. Assumes nothing.
-pub mod Meshes
-pub mod Served

@@ -1,2 +1,0 @@
--- What the code decides inside a text is 01's step.
-pub mod Same

@@ -1,2 +1,0 @@
--- The laws of the bytes seen, kept as a number. Assumes nothing.
-pub mod SeenLaws

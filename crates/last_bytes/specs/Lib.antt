@@ -1,2 +1,0 @@
--- The last bytes seen in the code's terms. Assumes nothing.
-pub mod AsNumber

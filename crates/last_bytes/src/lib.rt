@@ -1,2 +1,0 @@
-// Layer 2: the last bytes seen, and the opening among them.
-pub mod seen; // one more byte, the end of an opening, its due byte

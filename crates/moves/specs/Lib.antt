@@ -1,2 +1,0 @@
--- What a byte leaves behind it, in the code's terms. Assumes nothing.
-pub mod Moves

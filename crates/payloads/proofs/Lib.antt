@@ -1,2 +1,0 @@
--- Payload bytes, one by one and many at once.
-pub mod Paying

@@ -1,2 +1,0 @@
--- Which states are possible, in the code's terms. Assumes nothing.
-pub mod Fits

@@ -1,0 +1,100 @@
+// A block byte from byte 3 on, by its kind: whether it keeps its rule (01, row 18), and where it
+// enters: header, modes or grid.
+use crate::end::end_takes;
+use crate::end::enter_modes;
+use crate::start::enter_header;
+use crate::start::start_takes;
+use receiver_state::grid::Effect;
+use text::header::Header;
+use text::payload::is_payload_byte;
+use text_kinds::table::is_end_kind;
+use text_kinds::table::is_start_kind;
+use text_kinds::table::part_of_kind;
+use text_kinds::table::text_of_kind;
+use text_lengths::block::block_length;
+ghost use mathlib.Core.Path.{_≡_};
+ghost use mathlib.Core.Bool.{false};
+ghost use Prim.Native.Nat.{_≤_, _<_, _+_, _*_, _-_};
+ghost use Rattle.text.specs.Kinds.{isStartKind, isEndKind, textNumber, blockLength};
+ghost use Rattle.receiver_block_bytes.specs.BlockByte.{isTaken, entered};
+
+// What a block byte leaves: whether it keeps its rule, header and modes with it, and its effect on
+// the grid. Where it does not, header and modes are as they were.
+pub struct EnterResult {
+    pub kept: bool,
+    pub header: Header,
+    pub modes: [u8; 8],
+    pub effect: Effect,
+}
+
+// Whether a byte lies within the block, from byte 3 on, and keeps its rule: by start, end or data
+// block. Notice 49, 4(1)(1-1)(c)(イ) to (エ), (d)(イ) and (ウ), 4(1)(1-2)(d)(ウ), 4(2)(d)(ウ)
+fn is_taken(kind: u8, header: Header, i: u16, b: u8) -> bool
+    ensures { λ r. ⌜ r ≡ isTaken kind header i b ⌝ }
+{
+    if (i < 3) | (block_length(kind) <= i) {
+        return false;
+    }
+    if is_start_kind(kind) {
+        return start_takes(header, i, b);
+    }
+    if is_end_kind(kind) {
+        let radars = header.radars;
+        return end_takes(radars, i, b);
+    }
+    is_payload_byte(part_of_kind(kind), b)
+}
+
+// Where a payload byte enters the grid: data text k from byte 2,000 × (k − 1).
+// Notice 49, 4(1)(1-1)(c)(エ), 4(1)(1-2)(c)(エ), 4(2)(c)(エ)
+fn grid_place(kind: u8, i: u16) -> usize
+    requires { ⌜ 3 ≤ i ⌝ }
+    requires { ⌜ i < blockLength kind ⌝ }
+    requires { ⌜ isStartKind kind ≡ false ⌝ }
+    requires { ⌜ isEndKind kind ≡ false ⌝ }
+    ensures { λ r. ⌜ r ≡ 2000 * (textNumber kind - 1) + (i - 3) ⌝ }
+{
+    let text = text_of_kind(kind);
+    2000 * ((text - 1) as usize) + ((i - 3) as usize)
+}
+
+// A block byte that keeps its rule enters the header, the modes or the grid.
+// Notice 49, 4(1)(1-1)(c)(イ) to (エ), 4(1)(1-2)(c)(エ), 4(2)(c)(エ)
+pub fn enter_byte(kind: u8, header: Header, modes: [u8; 8], i: u16, b: u8) -> EnterResult
+    ensures { λ r. ⌜ r ≡ entered kind header modes i b ⌝ }
+{
+    let kept = is_taken(kind, header, i, b);
+    if kept & is_start_kind(kind) {
+        let with_byte = enter_header(header, i, b);
+        return EnterResult {
+            kept,
+            header: with_byte,
+            modes,
+            effect: Effect::Keep,
+        };
+    }
+    if kept & is_end_kind(kind) {
+        let with_byte = enter_modes(modes, i, b);
+        return EnterResult {
+            kept,
+            header,
+            modes: with_byte,
+            effect: Effect::Keep,
+        };
+    }
+    if kept {
+        let at = grid_place(kind, i);
+        return EnterResult {
+            kept,
+            header,
+            modes,
+            effect: Effect::Enter(at),
+        };
+    }
+    EnterResult {
+        kept,
+        header,
+        modes,
+        effect: Effect::Keep,
+    }
+}

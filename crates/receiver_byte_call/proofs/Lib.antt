@@ -1,0 +1,4 @@
+-- From a byte's decision to the byte call. Assumes nothing.
+pub mod Laws
+pub mod Decisions
+pub mod PayloadByte

@@ -1,0 +1,35 @@
+-- A byte inside a payload, in the code's terms. Assumes nothing.
+use Prim.Native.Nat.{ℕ}
+use mathlib.Core.Bool.{Bool, not, _&&_}
+use lib.Dec.{eqb, leb, ltb}
+use Rattle.text.specs.Pictures.{isPictureCode}
+use Rattle.text.specs.Kinds.{isKind, kindOf, dataBlockLength}
+use Rattle.text.specs.DataBlock.{isPayloadByte}
+use Rattle.receiver_state.specs.declared.state.Frame.{Frame}
+use Rattle.receiver_state.specs.declared.state.State.{State}
+use Rattle.receiver_decisions.specs.Decisions.{frame}
+
+-- a data text of the open part is under way, the one that is due; it is inside its payload, five bytes are seen, and this byte keeps
+-- the payload's rule. Notice 49, 4(1)(1-1)(c)(エ), 4(1)(1-2)(c)(エ), 4(2)(c)(エ)
+unfoldable pub isPayloadHere : Frame → ℕ → Bool
+isPayloadHere f b =
+    leb 3 (f .place)
+    && not (eqb (f .due) 0)
+    && leb (f .due) 10
+    && eqb (f .count) 5
+    && ltb (f .place) (dataBlockLength (f .part))
+    && eqb (f .kind) (kindOf (f .part) (f .due))
+    && isKind (f .kind)
+    && isPictureCode (f .picture)
+    && isPayloadByte (f .part) b
+
+-- the state inside a payload: place, check byte and the bytes seen have moved on
+unfoldable pub advancedState : State → ℕ → ℕ → ℕ → ℕ → State
+advancedState s place check seen count =
+    record {
+      seen = seen;
+      frame =
+          frame place (s .frame .kind) (s .frame .picture) (s .frame .part) (s .frame .due) check count;
+      header = s .header;
+      modes = s .modes;
+    }

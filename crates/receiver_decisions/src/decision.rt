@@ -1,0 +1,77 @@
+// What a byte leaves: the next state, its answer, and its effect on the grid. Every decision about a
+// byte is made by one of the functions here.
+use receiver_state::answer::Answer;
+use receiver_state::grid::Effect;
+use receiver_state::state::Frame;
+use receiver_state::state::State;
+use text::header::Header;
+ghost use mathlib.Core.Path.{_≡_};
+ghost use Rattle.receiver_decisions.specs.Decisions.{goesOn, begins, drops};
+
+// What a byte does: the next state, its answer, and its effect on the grid.
+pub struct Decision {
+    pub next: State,
+    pub answer: Answer,
+    pub effect: Effect,
+}
+
+// Header and modes stay, and the receiver stands elsewhere
+pub fn goes_on(s: State, frame: Frame, answer: Answer, effect: Effect) -> Decision
+    ensures { λ r. ⌜ r ≡ goesOn s frame answer effect ⌝ }
+{
+    let header = s.header;
+    let modes = s.modes;
+    let next = State {
+        seen: s.seen,
+        frame,
+        header,
+        modes,
+    };
+    Decision {
+        next,
+        answer,
+        effect,
+    }
+}
+
+// Header and modes are 0, and the picture code enters. Notice 49, 4(1)(1-1)(c)(イ)
+pub fn begins(s: State, frame: Frame, picture: u8, answer: Answer, effect: Effect) -> Decision
+    ensures { λ r. ⌜ r ≡ begins s frame picture answer effect ⌝ }
+{
+    let header = Header {
+        time: [0; 12],
+        radars: [0; 8],
+        clock: 0,
+        picture,
+        mode: 0,
+        noecho: false,
+    };
+    let next = State {
+        seen: s.seen,
+        frame,
+        header,
+        modes: [0; 8],
+    };
+    Decision {
+        next,
+        answer,
+        effect,
+    }
+}
+
+// Dropped: state and grid are as fresh, but the bytes seen are kept (01, "Dropped")
+pub fn drops(s: State, n: u8) -> Decision
+    ensures { λ r. ⌜ r ≡ drops s n ⌝ }
+{
+    let f = s.frame;
+    let frame = Frame {
+        place: 0,
+        kind: 0,
+        picture: 0,
+        part: 0,
+        due: 0,
+        check: 0,
+        count: f.count,
+    };
+    begins(s, frame, 0, Answer::Dropped(n), Effect::Clear)
+}

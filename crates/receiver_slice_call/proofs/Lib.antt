@@ -1,0 +1,2 @@
+-- The laws of the slice call.
+pub mod Laws

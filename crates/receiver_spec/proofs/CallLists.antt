@@ -1,0 +1,195 @@
+-- Lists of calls are runs of steps: state and grid after the calls, and the answers that they gave, are those of the bytes taken, step by step.
+-- Assumes nothing.
+use mathlib.Core.Path.{_≡_, refl, sym, ap, ap₂, _∙_, subst}
+use mathlib.Core.Logic.{_≢_}
+use mathlib.Core.List.{List, [], _∷_, _++_, append-assoc, append-nil, map}
+use mathlib.Core.Bool.{not}
+use Prim.Native.Nat.{ℕ, zero, suc, _+_, _≤_}
+use native.Mathlib.Omega.{arith}
+use lib.Dec.{eqb}
+use lib.ListN.{length, take}
+use borrow.Author.Tests.{eqb-true, eqb-false, eq-eqb, ne-eqb}
+use Rattle.text.specs.Part.{gridLength}
+use Rattle.general_laws.proofs.Tests.{by-if}
+use Rattle.receiver_spec.specs.State.{State, fresh, emptyGrid, isPossible}
+use Rattle.receiver_spec.specs.Receiver.{step}
+use Rattle.receiver_spec.specs.Calls.{answered, CallOutcome, refuses, judged, byteCall, feed, sliceCall, Request, byte, slice, Call, onGrid, elsewhere, ask, number, spread, After, start, add, next, after, received, singly, answersOf, stateAfter, gridAfter}
+use Rattle.receiver_spec.specs.Demand3.{SliceTaken}
+use Rattle.receiver_spec.proofs.Possible.{Possible, possible-keeps, step-kept, fresh-possible, grid-long}
+
+-- ---- single calls
+
+-- a call that is not refused
+pub not-refused : (s : State) (g : List ℕ) (outcome : CallOutcome) → Possible s → length g ≡ gridLength → judged s g outcome ≡ outcome
+not-refused s g outcome p l = rw (eq-eqb (length g) gridLength l, possible-keeps s p)
+
+pub wrong-grid : (s : State) (g : List ℕ) (r : Request) → length g ≢ gridLength → ask s g r ≡ refuses 1 s g
+unfolding ask byteCall sliceCall
+wrong-grid s g (byte b) n = rw (ne-eqb (length g) gridLength n)
+wrong-grid s g (slice bytes) n = rw (ne-eqb (length g) gridLength n)
+
+pub byte-taken : (s : State) (g : List ℕ) (b : ℕ) → Possible s → length g ≡ gridLength
+    → ask s g (byte b) ≡ record { reply = answered (step s g b .answer); count = 1; state = step s g b .state; grid = step s g b .grid }
+unfolding ask byteCall
+byte-taken s g b p l = not-refused s g _ p l
+
+spread-suc : (n a : ℕ) → (n ≡ 0 → a ≡ 0) → spread (suc n) a ≡ 0 ∷ spread n a
+spread-suc zero a h = rw (h refl)
+spread-suc (suc n) a h = refl
+
+feed-taken : (bytes : List ℕ) (s : State) (g : List ℕ) → SliceTaken s g bytes (feed s g bytes)
+unfolding feed answersOf stateAfter gridAfter
+feed-taken [] s g = record { answer = refl; within = omega arith; each = refl; all = λ _. refl; state = refl; grid = refl }
+feed-taken (b ∷ bytes) s g =
+    let o = step s g b in
+    let f = feed (o .state) (o .grid) bytes in
+    let ih = feed-taken bytes (o .state) (o .grid) in
+    by-if (SliceTaken s g (b ∷ bytes)) (eqb (o .answer) 0)
+    (λ e. record {
+      answer = ih .answer;
+      within = omega (arith, ih .within);
+      each = ap₂ (λ x y. x ∷ y) (eqb-true _ _ e) (ih .each) ∙ sym (spread-suc (f .count) (number (f .reply)) (λ z. none bytes (o .state) (o .grid) z));
+      all = λ z. ap suc (ih .all z);
+      state = ih .state;
+      grid = ih .grid;
+    })
+    (λ e. record { answer = refl; within = omega arith; each = refl; all = λ z. absurd (eqb-false _ _ e z); state = refl; grid = refl })
+  where
+    none : (bytes : List ℕ) (s : State) (g : List ℕ) → feed s g bytes .count ≡ 0 → number (feed s g bytes .reply) ≡ 0
+    none [] s g e = refl
+    none (b ∷ bytes) s g e =
+        by-if (λ (f : CallOutcome). f .count ≡ 0 → number (f .reply) ≡ 0) (eqb (step s g b .answer) 0) (λ _ h. absurd (omega arith)) (λ _ h. absurd (omega arith)) e
+
+pub slice-taken : (s : State) (g bytes : List ℕ) → Possible s → length g ≡ gridLength → SliceTaken s g bytes (ask s g (slice bytes))
+unfolding ask sliceCall
+slice-taken s g bytes p l = subst (SliceTaken s g bytes) (sym (not-refused s g (feed s g bytes) p l)) (feed-taken bytes s g)
+
+-- whatever the state and the grid: no more bytes are taken than there are
+pub slice-count-most : (s : State) (g bytes : List ℕ) → sliceCall s g bytes .count ≤ length bytes
+unfolding sliceCall
+slice-count-most s g bytes =
+    by-if (λ (o : CallOutcome). o .count ≤ length bytes) (not (eqb (length g) gridLength)) (λ _. omega arith)
+    (λ _. by-if (λ (o : CallOutcome). o .count ≤ length bytes) (not (isPossible s)) (λ _. omega arith) (λ _. feed-taken bytes s g .within))
+
+-- ---- possible states and grids stay so
+
+pub record Sound (s : State) (g : List ℕ) : Type 0 where
+  pub possible : Possible s
+  pub long : length g ≡ gridLength
+
+pub steps-sound : (bytes : List ℕ) (s : State) (g : List ℕ) → Sound s g → Sound (stateAfter s g bytes) (gridAfter s g bytes)
+unfolding stateAfter gridAfter
+steps-sound [] s g h = h
+steps-sound (b ∷ bytes) s g h =
+    let (p, l) = step-kept s g b (h .possible) (h .long) in
+    steps-sound bytes (step s g b .state) (step s g b .grid) (record { possible = p; long = l })
+
+-- ---- lists of calls
+
+-- from a to z bytes were taken, step by step
+pub record Leads (a z : After) : Type 0 where
+  pub bytes : List ℕ
+  pub taken : z .taken ≡ a .taken ++ bytes
+  pub said : z .said ≡ a .said ++ answersOf (a .state) (a .grid) bytes
+  pub state : z .state ≡ stateAfter (a .state) (a .grid) bytes
+  pub grid : z .grid ≡ gridAfter (a .state) (a .grid) bytes
+
+pub answers-append : (xs ys : List ℕ) (s : State) (g : List ℕ) → answersOf s g (xs ++ ys) ≡ answersOf s g xs ++ answersOf (stateAfter s g xs) (gridAfter s g xs) ys
+unfolding answersOf stateAfter gridAfter
+answers-append [] ys s g = refl
+answers-append (x ∷ xs) ys s g = ap (λ t. step s g x .answer ∷ t) (answers-append xs ys (step s g x .state) (step s g x .grid))
+
+pub state-append : (xs ys : List ℕ) (s : State) (g : List ℕ) → stateAfter s g (xs ++ ys) ≡ stateAfter (stateAfter s g xs) (gridAfter s g xs) ys
+unfolding stateAfter gridAfter
+state-append [] ys s g = refl
+state-append (x ∷ xs) ys s g = state-append xs ys (step s g x .state) (step s g x .grid)
+
+pub grid-append : (xs ys : List ℕ) (s : State) (g : List ℕ) → gridAfter s g (xs ++ ys) ≡ gridAfter (stateAfter s g xs) (gridAfter s g xs) ys
+unfolding stateAfter gridAfter
+grid-append [] ys s g = refl
+grid-append (x ∷ xs) ys s g = grid-append xs ys (step s g x .state) (step s g x .grid)
+
+leads-none : (a : After) → Leads a a
+unfolding answersOf stateAfter gridAfter
+leads-none a = record { bytes = []; taken = sym (append-nil _); said = sym (append-nil _); state = refl; grid = refl }
+
+leads-on : {a b c : After} → Leads a b → Leads b c → Leads a c
+leads-on {a} {b} {c} x y =
+    record {
+      bytes = x .bytes ++ y .bytes;
+      taken = y .taken ∙ ap (λ t. t ++ y .bytes) (x .taken) ∙ append-assoc (a .taken) (x .bytes) (y .bytes);
+      said =
+          y .said ∙ ap₂ (λ t u. t ++ u) (x .said) (ap₂ (λ s g. answersOf s g (y .bytes)) (x .state) (x .grid))
+          ∙ append-assoc (a .said) (answersOf (a .state) (a .grid) (x .bytes)) _
+          ∙ ap (λ t. a .said ++ t) (sym (answers-append (x .bytes) (y .bytes) (a .state) (a .grid)));
+      state = y .state ∙ ap₂ (λ s g. stateAfter s g (y .bytes)) (x .state) (x .grid) ∙ sym (state-append (x .bytes) (y .bytes) (a .state) (a .grid));
+      grid = y .grid ∙ ap₂ (λ s g. gridAfter s g (y .bytes)) (x .state) (x .grid) ∙ sym (grid-append (x .bytes) (y .bytes) (a .state) (a .grid));
+    }
+
+leads-next : (a : After) (c : Call) → Sound (a .state) (a .grid) → Leads a (next a c)
+unfolding next answersOf stateAfter gridAfter
+leads-next a (onGrid (byte b)) h =
+    let e = byte-taken (a .state) (a .grid) b (h .possible) (h .long) in
+    subst (λ (outcome : CallOutcome). Leads a (add a (byte b) outcome)) (sym e) (record { bytes = b ∷ []; taken = refl; said = refl; state = refl; grid = refl })
+leads-next a (onGrid (slice bytes)) h =
+    let t = slice-taken (a .state) (a .grid) bytes (h .possible) (h .long) in
+    record {
+      bytes = take (ask (a .state) (a .grid) (slice bytes) .count) bytes;
+      taken = refl;
+      said = ap (λ x. a .said ++ x) (sym (t .each));
+      state = t .state;
+      grid = t .grid;
+    }
+leads-next a (elsewhere r other n) h =
+    let e = wrong-grid (a .state) other r n in
+    subst (λ (outcome : CallOutcome). Leads a (add a r (record { reply = outcome .reply; count = outcome .count; state = a .state; grid = a .grid }))) (sym e)
+    (record { bytes = []; taken = refl; said = refl; state = refl; grid = refl })
+
+leads-sound : {a z : After} → Leads a z → Sound (a .state) (a .grid) → Sound (z .state) (z .grid)
+leads-sound {a} {z} x h = rw (x .state, x .grid) (steps-sound (x .bytes) (a .state) (a .grid) h)
+
+leads-after : (calls : List Call) (a : After) → Sound (a .state) (a .grid) → Leads a (after a calls)
+unfolding after
+leads-after [] a h = leads-none a
+leads-after (c ∷ calls) a h =
+    let x = leads-next a c h in
+    leads-on x (leads-after calls (next a c) (leads-sound x h))
+
+-- ---- from the fresh state
+
+pub fresh-sound : Sound fresh emptyGrid
+fresh-sound = record { possible = fresh-possible; long = grid-long }
+
+pub record Stepped (calls : List Call) : Type 0 where
+  pub said : received calls .said ≡ answersOf fresh emptyGrid (received calls .taken)
+  pub state : received calls .state ≡ stateAfter fresh emptyGrid (received calls .taken)
+  pub grid : received calls .grid ≡ gridAfter fresh emptyGrid (received calls .taken)
+
+pub calls-stepped : (calls : List Call) → Stepped calls
+unfolding start
+calls-stepped calls =
+    let x = leads-after calls start fresh-sound in
+    record {
+      said = x .said ∙ ap (answersOf fresh emptyGrid) (sym (x .taken));
+      state = x .state ∙ ap (stateAfter fresh emptyGrid) (sym (x .taken));
+      grid = x .grid ∙ ap (gridAfter fresh emptyGrid) (sym (x .taken));
+    }
+
+pub calls-sound : (calls : List Call) → Sound (received calls .state) (received calls .grid)
+calls-sound calls = let x = calls-stepped calls in rw (x .state, x .grid) (steps-sound (received calls .taken) fresh emptyGrid fresh-sound)
+
+-- given one by one, all bytes are taken
+next-byte : (a : After) (b : ℕ) → Sound (a .state) (a .grid) → next a (onGrid (byte b)) .taken ≡ a .taken ++ (b ∷ [])
+unfolding next
+next-byte a b h = ap (λ (outcome : CallOutcome). add a (byte b) outcome .taken) (byte-taken (a .state) (a .grid) b (h .possible) (h .long))
+
+bytes-taken : (bytes : List ℕ) (a : After) → Sound (a .state) (a .grid) → after a (map (λ b. onGrid (byte b)) bytes) .taken ≡ a .taken ++ bytes
+unfolding after
+bytes-taken [] a h = sym (append-nil _)
+bytes-taken (b ∷ bytes) a h =
+    bytes-taken bytes (next a (onGrid (byte b))) (leads-sound (leads-next a (onGrid (byte b)) h) h)
+    ∙ ap (λ t. t ++ bytes) (next-byte a b h) ∙ append-assoc (a .taken) (b ∷ []) bytes
+
+pub singly-taken : (bytes : List ℕ) → singly bytes .taken ≡ bytes
+unfolding start
+singly-taken bytes = bytes-taken bytes start fresh-sound

@@ -1,0 +1,20 @@
+-- What other crates may rest on: the laws of the receiver's definition. Everything else in proofs/ is this crate's own affair.
+
+-- Demand 3; and complete comes at a part's last byte and not before
+pub use Rattle.receiver_spec.proofs.Theorem.{demand-3, answers-long}
+pub use Rattle.receiver_spec.proofs.NotBefore.{not-before}
+-- Lists of calls are runs of steps, and calls on a sound state and grid (the fresh ones, and whatever steps lead to) are not refused
+pub use Rattle.receiver_spec.proofs.CallLists.{Sound, fresh-sound, steps-sound, not-refused, slice-taken, slice-count-most, calls-stepped, singly-taken, answers-append, state-append, grid-append}
+-- What a possible state says of its place
+pub use Rattle.receiver_spec.proofs.Possible.{place-before-kind, place-in-text}
+-- The running check byte
+pub use Rattle.receiver_spec.proofs.Steps.{check-is, xor-nil, xor-cons, xor-snoc}
+-- The opening among the last bytes seen
+pub use Rattle.receiver_spec.proofs.Opening.{only-FD, opening-seen, seenControl}
+pub use Rattle.receiver_spec.proofs.WayBack.{seenCheck}
+-- For code that takes whole texts at once: the receiver is a machine, byte by byte; a start text, and the due text of an open
+-- part, lead it from their first byte to the one before their last without an answer
+pub use Rattle.receiver_spec.proofs.Machine.{Machine, Out, mk, answering, move, block, AllQuiet, quiet-none, quiet-byte}
+pub use Rattle.receiver_spec.proofs.Instance.{radar, held, machine, out, step-is-move, radar-laws}
+pub use Rattle.receiver_spec.proofs.BlockRules.{start-taken, end-taken}
+pub use Rattle.receiver_spec.proofs.Completing.{start-quiet, due-quiet}

@@ -1,0 +1,17 @@
+pub mod Laws
+pub mod Machine
+pub mod Opening
+pub mod Steps
+pub mod WayBack
+pub mod Completing
+pub mod History
+pub mod Altered
+pub mod Instance
+pub mod BlockRules
+pub mod WholeParts
+pub mod Possible
+pub mod CallLists
+pub mod Theorem
+pub mod NotBefore
+pub mod Rows
+pub mod Samples

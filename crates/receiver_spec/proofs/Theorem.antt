@@ -1,0 +1,253 @@
+-- Demand 3, for every list of receiving calls. Assumes nothing.
+use mathlib.Core.Path.{_≡_, refl, sym, ap, ap₂, _∙_, subst}
+use mathlib.Core.Logic.{_≢_, _↔_}
+use mathlib.Core.Bool.{true}
+use mathlib.Core.List.{List, [], _∷_, _++_, append-assoc, map}
+use Prim.Native.Nat.{ℕ, suc, _+_, _-_}
+use native.Mathlib.Omega.{arith}
+use lib.ListN.{length, take, drop, length-append, length-drop, List·getD-eq-default}
+use lib.Dec.{ltb}
+use lib.Seq.{drop-at, split-at, length-take-le}
+use borrow.Author.Tests.{ltb-true, ltb-false}
+use Rattle.general_laws.specs.Bytes.{_!_}
+use Rattle.text.specs.Text.{FD, TPAD, textOf}
+use Rattle.text.specs.StartBlock.{isStartBlock, headerOf}
+use Rattle.text.specs.Part.{StartText, UndamagedPart, AlteredTo, partHeader, partModes, gridOf}
+use Rattle.text.specs.EndBlock.{noModes}
+use Rattle.general_laws.proofs.Tests.{by-test}
+use Rattle.text_laws.proofs.Blocks.{StartRules, start-rules, split-3}
+use Rattle.receiver_spec.specs.State.{State, fresh, emptyGrid}
+use Rattle.receiver_spec.specs.Receiver.{Step, step}
+use Rattle.receiver_spec.specs.Calls.{byte, Call, onGrid, received, singly, answersOf, stateAfter, gridAfter}
+use Rattle.receiver_spec.specs.Demand3.{EndsUndamaged, WayBack, Demand3}
+use Rattle.receiver_spec.proofs.Machine.{Machine, Out, move, run, new, block, most, text, Whole, whole}
+use Rattle.receiver_spec.proofs.Steps.{run-append}
+use Rattle.receiver_spec.proofs.WayBack.{way-back}
+use Rattle.receiver_spec.proofs.History.{complete-only, complete-if}
+use Rattle.receiver_spec.proofs.Altered.{altered-never}
+use Rattle.receiver_spec.proofs.Instance.{Held, held, radar, machine, out, step-is-move, radar-laws}
+use Rattle.text_laws.proofs.KindTable.{start-block-length}
+use Rattle.receiver_spec.proofs.BlockRules.{start-taken}
+use Rattle.receiver_spec.proofs.WholeParts.{text-same, heldOf, whole-undamaged, undamaged-whole}
+use Rattle.receiver_spec.proofs.CallLists.{wrong-grid, byte-taken, slice-taken, answers-append, Stepped, calls-stepped, calls-sound, singly-taken}
+
+-- ---- steps are moves
+
+machine-after : (bytes : List ℕ) (s : State) (g : List ℕ) → machine (stateAfter s g bytes) (gridAfter s g bytes) ≡ run radar (machine s g) bytes
+unfolding stateAfter gridAfter run
+machine-after [] s g = refl
+machine-after (b ∷ bytes) s g =
+    machine-after bytes (step s g b .state) (step s g b .grid) ∙ ap (λ (o : Out radar). run radar (o .machine) bytes) (step-is-move s g b)
+
+-- the answer of the byte behind others
+answer-at : (before : List ℕ) (b : ℕ) (rest : List ℕ) (s : State) (g : List ℕ)
+    → answersOf s g (before ++ (b ∷ rest)) ! length before ≡ move radar (run radar (machine s g) before) b .answer
+unfolding answersOf run
+answer-at [] b rest s g = ap (λ (o : Out radar). o .answer) (step-is-move s g b)
+answer-at (x ∷ before) b rest s g =
+    answer-at before b rest (step s g x .state) (step s g x .grid) ∙ ap (λ (o : Out radar). move radar (run radar (o .machine) before) b .answer) (step-is-move s g x)
+
+-- a state and a grid are what their machine is
+state-is : (s t : State) (g h : List ℕ) → machine s g ≡ machine t h → s ≡ t
+state-is s t g h e = λ i. record {
+  seen = e i .seen;
+  place = e i .place;
+  kind = e i .kind;
+  picture = e i .picture;
+  part = e i .part;
+  due = e i .due;
+  check = e i .check;
+  header = e i .held .header;
+  modes = e i .held .modes;
+}
+
+grid-is : (s t : State) (g h : List ℕ) → machine s g ≡ machine t h → g ≡ h
+grid-is s t g h e = ap (λ (m : Machine radar). m .held .grid) e
+
+step-same : (s t : State) (g h : List ℕ) (b : ℕ) → move radar (machine s g) b ≡ move radar (machine t h) b → step s g b ≡ step t h b
+step-same s t g h b e =
+    let f : out (step s g b) ≡ out (step t h b) = step-is-move s g b ∙ e ∙ sym (step-is-move t h b) in
+    λ i. record {
+      answer = f i .answer;
+      state = state-is (step s g b .state) (step t h b .state) (step s g b .grid) (step t h b .grid) (ap (λ (o : Out radar). o .machine) f) i;
+      grid = f i .machine .held .grid;
+    }
+
+-- ---- answers and places
+
+pub answers-long : (bytes : List ℕ) (s : State) (g : List ℕ) → length (answersOf s g bytes) ≡ length bytes
+unfolding answersOf
+answers-long [] s g = refl
+answers-long (b ∷ bytes) s g = ap suc (answers-long bytes (step s g b .state) (step s g b .grid))
+
+answers-from : (xs ys : List ℕ) (s : State) (g : List ℕ) (n : ℕ) → length xs ≡ n → drop n (answersOf s g (xs ++ ys)) ≡ answersOf (stateAfter s g xs) (gridAfter s g xs) ys
+answers-from xs ys s g n l = ap (drop n) (answers-append xs ys s g) ∙ drop-at (answersOf s g xs) (answersOf (stateAfter s g xs) (gridAfter s g xs) ys) n (answers-long xs s g ∙ l)
+
+answers-one : (s t : State) (g h : List ℕ) (b : ℕ) (rest : List ℕ) → step s g b ≡ step t h b → answersOf s g (b ∷ rest) ≡ answersOf t h (b ∷ rest)
+unfolding answersOf
+answers-one s t g h b rest e = ap (λ (o : Step). o .answer ∷ answersOf (o .state) (o .grid) rest) e
+
+-- ---- a start text
+
+module _ (t : List ℕ) (u : StartText t) where
+  abbrev b : List ℕ
+  b = u .block
+
+  rules : StartRules b
+  rules = start-rules b (u .rules)
+
+  abbrev q : ℕ
+  q = b ! 1
+
+  abbrev k : ℕ
+  k = b ! 2
+
+  abbrev xs : List ℕ
+  xs = drop 3 b
+
+  split : b ≡ block radar q k xs
+  split = split-3 b (omega (arith, rules .long)) (rules .first)
+
+  -- the text but for its last byte
+  front : List ℕ
+  front = most radar (block radar q k xs)
+
+  text-is : t ≡ front ++ (TPAD ∷ [])
+  unfolding front
+  text-is = u .framed ∙ ap textOf split ∙ sym (text-same (block radar q k xs))
+
+  -- from its last byte on it makes no difference what came before
+  same-move : (m n : Machine radar) → move radar (run radar m front) TPAD ≡ move radar (run radar n front) TPAD
+  unfolding front
+  same-move m n =
+      let long : length xs ≡ 29 = omega (arith, length-drop 3 b, rules .long) in
+      let contents = start-taken q k (radar .blank) (held (headerOf (block radar q k xs)) noModes emptyGrid) xs (rules .picture) (rules .kind) long .1 (subst (λ y. isStartBlock y ≡ true) split (u .rules), refl) in
+      way-back radar radar-laws (rules .picture) (rules .kind) (omega (arith, long, start-block-length k (rules .kind))) contents m n
+
+  same-run : (m n : Machine radar) (rest : List ℕ) → run radar m (t ++ rest) ≡ run radar n (t ++ rest)
+  unfolding run
+  same-run m n rest =
+      over m ∙ ap (λ (o : Out radar). run radar (o .machine) rest) (same-move m n) ∙ sym (over n)
+    where
+      over : (m : Machine radar) → run radar m (t ++ rest) ≡ run radar (move radar (run radar m front) TPAD .machine) rest
+      over m = ap (λ y. run radar m (y ++ rest)) text-is ∙ ap (run radar m) (append-assoc front (TPAD ∷ []) rest) ∙ run-append radar m front (TPAD ∷ rest)
+
+  same-step : (before : List ℕ) → step (stateAfter fresh emptyGrid (before ++ front)) (gridAfter fresh emptyGrid (before ++ front)) TPAD
+      ≡ step (stateAfter fresh emptyGrid front) (gridAfter fresh emptyGrid front) TPAD
+  same-step before =
+      step-same _ _ _ _ TPAD
+      (ap (λ m. move radar m TPAD) (machine-after (before ++ front) fresh emptyGrid ∙ run-append radar (machine fresh emptyGrid) before front)
+      ∙ same-move (run radar (machine fresh emptyGrid) before) (machine fresh emptyGrid) ∙ ap (λ m. move radar m TPAD) (sym (machine-after front fresh emptyGrid)))
+
+  found : (calls : List Call) (before rest : List ℕ) → received calls .taken ≡ before ++ (t ++ rest) → WayBack (received calls) before t rest
+  found calls before rest e =
+      record {
+        state = x .state ∙ ap (stateAfter fresh emptyGrid) e ∙ state-is _ _ _ _ machines ∙ ap (stateAfter fresh emptyGrid) (sym taken) ∙ sym (y .state);
+        grid = x .grid ∙ ap (gridAfter fresh emptyGrid) e ∙ grid-is _ _ _ _ machines ∙ ap (gridAfter fresh emptyGrid) (sym taken) ∙ sym (y .grid);
+        answers = ap (drop (length before + (length t - 1))) (x .said ∙ ap (answersOf fresh emptyGrid) e) ∙ ends ∙ ap (drop (length t - 1)) (ap (answersOf fresh emptyGrid) (sym taken) ∙ sym (y .said));
+      }
+    where
+      x : Stepped calls
+      x = calls-stepped calls
+
+      ones : List Call
+      ones = map (λ b. onGrid (byte b)) (t ++ rest)
+
+      y : Stepped ones
+      y = calls-stepped ones
+
+      taken : singly (t ++ rest) .taken ≡ t ++ rest
+      taken = singly-taken (t ++ rest)
+
+      machines : machine (stateAfter fresh emptyGrid (before ++ (t ++ rest))) (gridAfter fresh emptyGrid (before ++ (t ++ rest))) ≡ machine (stateAfter fresh emptyGrid (t ++ rest)) (gridAfter fresh emptyGrid (t ++ rest))
+      machines =
+          machine-after (before ++ (t ++ rest)) fresh emptyGrid ∙ run-append radar (machine fresh emptyGrid) before (t ++ rest)
+          ∙ same-run (run radar (machine fresh emptyGrid) before) (machine fresh emptyGrid) rest ∙ sym (machine-after (t ++ rest) fresh emptyGrid)
+
+      long : length t ≡ suc (length front)
+      long = ap length text-is ∙ length-append front (TPAD ∷ []) ∙ one (length front)
+        where
+          one : (n : ℕ) → n + 1 ≡ suc n
+          one n = omega arith
+
+      parts : (ys : List ℕ) → ys ++ (t ++ rest) ≡ (ys ++ front) ++ (TPAD ∷ rest)
+      parts ys = ap (λ z. ys ++ (z ++ rest)) text-is ∙ ap (λ z. ys ++ z) (append-assoc front (TPAD ∷ []) rest) ∙ sym (append-assoc ys front (TPAD ∷ rest))
+
+      from-last : (ys : List ℕ) (n : ℕ) → length (ys ++ front) ≡ n
+          → drop n (answersOf fresh emptyGrid (ys ++ (t ++ rest))) ≡ answersOf (stateAfter fresh emptyGrid (ys ++ front)) (gridAfter fresh emptyGrid (ys ++ front)) (TPAD ∷ rest)
+      from-last ys n l = ap (λ z. drop n (answersOf fresh emptyGrid z)) (parts ys) ∙ answers-from (ys ++ front) (TPAD ∷ rest) fresh emptyGrid n l
+
+      ends : drop (length before + (length t - 1)) (answersOf fresh emptyGrid (before ++ (t ++ rest))) ≡ drop (length t - 1) (answersOf fresh emptyGrid (t ++ rest))
+      ends =
+          from-last before (length before + (length t - 1)) (omega (arith, length-append before front, long))
+          ∙ same-answers before
+          ∙ sym (from-last [] (length t - 1) (omega (arith, long)))
+        where
+          same-answers : (before : List ℕ) → answersOf (stateAfter fresh emptyGrid (before ++ front)) (gridAfter fresh emptyGrid (before ++ front)) (TPAD ∷ rest)
+              ≡ answersOf (stateAfter fresh emptyGrid front) (gridAfter fresh emptyGrid front) (TPAD ∷ rest)
+          same-answers before = answers-one _ _ _ _ TPAD rest (same-step before)
+
+-- ---- complete
+
+-- an undamaged part ends with TPAD
+last-byte : {zs : List ℕ} {c : Held} → Whole radar zs c → (h : List ℕ) × (zs ≡ h ++ (TPAD ∷ []))
+last-byte (whole {ys} {k} {xs} {c} o hq hk g n v l r z) =
+    (ys ++ most radar (block radar (c .header .picture) k xs), sym (append-assoc ys (most radar (block radar (c .header .picture) k xs)) (TPAD ∷ [])))
+
+module _ (calls : List Call) where
+  stepped : Stepped calls
+  stepped = calls-stepped calls
+
+  said-at : (before : List ℕ) (b : ℕ) (rest : List ℕ) → received calls .taken ≡ before ++ (b ∷ rest)
+      → received calls .said ! length before ≡ move radar (run radar (new radar) before) b .answer
+  said-at before b rest e =
+      ap (λ t. t ! length before) (stepped .said ∙ ap (answersOf fresh emptyGrid) e) ∙ answer-at before b rest fresh emptyGrid
+
+  completed : (before : List ℕ) (b : ℕ) (rest : List ℕ) → received calls .taken ≡ before ++ (b ∷ rest)
+      → (received calls .said ! length before ≡ 3) ↔ EndsUndamaged (before ++ (b ∷ []))
+  completed before b rest e = (
+    λ h. let (z, ys, f, w) = complete-only radar radar-laws before b (sym (said-at before b rest e) ∙ h) in
+        record { before = z; part = ys; split = f; whole = whole-undamaged w .0 },
+    λ u. said-at before b rest e ∙ complete-if radar radar-laws before b (heldOf (u .whole .part)) (u .before, u .part, u .split, undamaged-whole (u .whole)) .0,
+  )
+
+  holds : (before part : List ℕ) (u : UndamagedPart part) → received calls .taken ≡ before ++ part
+      → (received calls .state .header ≡ partHeader (u .part)) × (received calls .state .modes ≡ partModes (u .part)) × (received calls .grid ≡ gridOf (u .part))
+  unfolding run
+  holds before part u e =
+      let w = undamaged-whole u in
+      let (h, f) = last-byte w in
+      let split : before ++ part ≡ (before ++ h) ++ (TPAD ∷ []) = ap (λ t. before ++ t) f ∙ sym (append-assoc before h (TPAD ∷ [])) in
+      let end = complete-if radar radar-laws (before ++ h) TPAD (heldOf (u .part)) (before, part, sym split, w) .1 in
+      let here : machine (received calls .state) (received calls .grid) ≡ move radar (run radar (new radar) (before ++ h)) TPAD .machine =
+      ap₂ machine (stepped .state) (stepped .grid) ∙ machine-after (received calls .taken) fresh emptyGrid ∙ ap (run radar (new radar)) (e ∙ split) ∙ run-append radar (new radar) (before ++ h) (TPAD ∷ []) in
+      let all : held (received calls .state .header) (received calls .state .modes) (received calls .grid) ≡ heldOf (u .part) = ap (λ (m : Machine radar). m .held) here ∙ end in
+      (ap (λ (c : Held). c .header) all, ap (λ (c : Held). c .modes) all, ap (λ (c : Held). c .grid) all)
+
+  never-complete : (part : List ℕ) (v : ℕ) → UndamagedPart part → v ≢ FD → AlteredTo v part (received calls .taken) → (i : ℕ) → received calls .said ! i ≢ 3
+  never-complete part v u n a i e =
+      by-test (ltb i (length (received calls .taken)))
+      (λ t. let l = ltb-true i (length (received calls .taken)) t in
+      let bytes = received calls .taken in
+      let split = split-at bytes i 0 l in
+      let at : length (take i bytes) ≡ i = length-take-le i bytes (omega arith) in
+      altered-never radar radar-laws n (undamaged-whole u) a (take i bytes) (bytes ! i) (drop (suc i) bytes) split
+      (sym (said-at (take i bytes) (bytes ! i) (drop (suc i) bytes) split) ∙ ap (λ j. received calls .said ! j) at ∙ e))
+      (λ t. let l = ltb-false i (length (received calls .taken)) t in
+      let long : length (received calls .said) ≡ length (received calls .taken) = ap length (stepped .said) ∙ answers-long (received calls .taken) fresh emptyGrid in
+      let none : received calls .said ! i ≡ 0 = List·getD-eq-default (received calls .said) 0 (omega arith) in
+      omega arith)
+
+-- The theorem
+pub demand-3 : (calls : List Call) → Demand3 calls
+demand-3 calls =
+    let sound = calls-sound calls in
+    record {
+      otherGrid = λ r grid n. wrong-grid (received calls .state) grid r n;
+      byteTaken = λ b. byte-taken (received calls .state) (received calls .grid) b (sound .possible) (sound .long);
+      sliceTaken = λ bytes. slice-taken (received calls .state) (received calls .grid) bytes (sound .possible) (sound .long);
+      wayBack = λ before text rest u e. found text u calls before rest e;
+      complete = completed calls;
+      held = holds calls;
+      altered = never-complete calls;
+    }

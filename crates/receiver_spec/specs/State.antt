@@ -1,0 +1,90 @@
+-- The receiver's state, and which states are possible. Assumes nothing.
+use Prim.Native.Nat.{ℕ, _+_}
+use mathlib.Core.Bool.{Bool, cond, _&&_, not}
+use mathlib.Core.List.{List, [], _∷_}
+use lib.Dec.{eqb, leb}
+use lib.ListN.{length}
+use Rattle.general_laws.specs.Bytes.{allOf}
+use Rattle.text.specs.Pictures.{isPictureCode}
+use Rattle.text.specs.Kinds.{isKind, isStartKind, kindOf, blockLength}
+use Rattle.text.specs.StartBlock.{blankHeader}
+use Rattle.text.specs.EndBlock.{noModes}
+use Rattle.text.specs.Part.{zeros, gridLength}
+use Rattle.text.specs.declared.header.Header.{Header}
+
+-- 01: the state is a value
+pub record State : Type 0 where
+  -- the last bytes seen (0 to 5 of them), newest first
+  pub seen : List ℕ
+  -- 0 between texts, else the count of bytes taken from `FD` on
+  pub place : ℕ
+  -- the kind and the picture code under way, each 0 until read and at place 0
+  pub kind : ℕ
+  pub picture : ℕ
+  -- the part open, or 0
+  pub part : ℕ
+  -- the due text: 0 with no part open, 1 to 10 for data, 11 for the end
+  pub due : ℕ
+  -- the running check byte, 0 at place 0
+  pub check : ℕ
+  pub header : Header
+  pub modes : List ℕ
+
+-- the grid, all 0
+abbrev pub emptyGrid : List ℕ
+emptyGrid = zeros gridLength
+
+-- State as fresh, but the last bytes seen are kept: what 01 calls dropped
+abbrev pub dropped : List ℕ → State
+dropped seen =
+    record {
+      seen = seen;
+      place = 0;
+      kind = 0;
+      picture = 0;
+      part = 0;
+      due = 0;
+      check = 0;
+      header = blankHeader;
+      modes = noModes;
+    }
+
+-- Fresh: nothing seen, place 0, no part, all else 0
+abbrev pub fresh : State
+fresh = dropped []
+
+-- The ranges that refusal 2 names, and nothing more: header and modes are not judged, and a check byte is a byte
+
+-- no part open and no text due, or a part and one of its texts, the start aside. Notice 49, 4(1)(1-1)(a), 4(1)(1-2)(a), 4(2)(a)
+unfoldable pub isDue : ℕ → ℕ → Bool
+isDue part due = cond (eqb part 0) (eqb due 0) (isKind (kindOf part due) && not (eqb due 0))
+
+-- the kind read is the due one of the open part, or a start kind with none open
+unfoldable pub fitsPart : State → Bool
+fitsPart s = cond (eqb (s .part) 0) (isStartKind (s .kind)) (eqb (s .kind) (kindOf (s .part) (s .due)))
+
+-- before the kind is read: nothing under way, the `FD`, or the `FD` and the picture code
+unfoldable pub kindUnread : State → Bool
+kindUnread s =
+    cond (eqb (s .place) 0) (eqb (s .picture) 0 && eqb (s .check) 0)
+    (cond (eqb (s .place) 1) (eqb (s .picture) 0)
+    (eqb (s .place) 2 && isPictureCode (s .picture)))
+
+-- after it is read
+unfoldable pub kindRead : State → Bool
+kindRead s =
+    allOf (
+    leb 3 (s .place)
+    ∷ leb (s .place) (blockLength (s .kind) + 2)
+    ∷ isPictureCode (s .picture)
+    ∷ isKind (s .kind)
+    ∷ fitsPart s
+    ∷ [])
+
+unfoldable pub isPossible : State → Bool
+isPossible s =
+    allOf (
+    leb (length (s .seen)) 5
+    ∷ isDue (s .part) (s .due)
+    ∷ cond (eqb (s .kind) 0) (kindUnread s) (kindRead s)
+    ∷ [])

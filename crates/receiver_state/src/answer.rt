@@ -1,0 +1,27 @@
+// Answers, and their numbers.
+ghost use mathlib.Core.Path.{_≡_};
+ghost use Rattle.receiver_state.specs.Meaning.{numberOf};
+
+// A call's answer. 01's numbers: 0, 1, 2, 3; 11 to 22; refusals 1 and 2.
+pub enum Answer {
+    Quiet,
+    Begun,
+    Taken,
+    Complete,
+    Dropped(u8),
+    Refused(u8),
+}
+
+// 01's number of an answer; a refusal's is that of its row
+pub fn number_of(a: Answer) -> u8
+    ensures { λ r. ⌜ r ≡ numberOf a ⌝ }
+{
+    match a {
+        Answer::Quiet => 0,
+        Answer::Begun => 1,
+        Answer::Taken => 2,
+        Answer::Complete => 3,
+        Answer::Dropped(n) => n,
+        Answer::Refused(n) => n,
+    }
+}

@@ -1,0 +1,2 @@
+-- Which states are possible, in the code's terms. Assumes nothing.
+pub mod FrameFits

@@ -1,0 +1,2 @@
+-- What the code decides is 01's step.
+pub mod Laws

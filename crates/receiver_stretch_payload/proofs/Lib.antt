@@ -1,0 +1,2 @@
+-- Payload bytes, one by one and many at once.
+pub mod InPayload

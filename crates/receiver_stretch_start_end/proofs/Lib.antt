@@ -1,0 +1,3 @@
+-- Bytes between texts, and whole start and end texts, many bytes at once.
+pub mod BetweenTexts
+pub mod WholeTexts

@@ -1,0 +1,118 @@
+// A whole start or end text, up to its last byte.
+use crate::between::is_gap;
+use crate::between::is_idle;
+use receiver_bytes_seen::behind::check_behind;
+use receiver_bytes_seen::behind::seen_behind;
+use receiver_bytes_seen::seen::ends_opening;
+use receiver_state::state::Frame;
+use receiver_state::state::State;
+use receiver_stretches::stretch::StretchResult;
+use text_end_block::read::read_end;
+use text_kinds::table::kind_of;
+use text_start_block::read::read_start;
+ghost use mathlib.Core.Path.{_≡_};
+ghost use mathlib.Core.Bool.{true};
+ghost use Prim.Native.Nat.{_≤_};
+ghost use lib.ListN.{length, take};
+ghost use Rattle.text.specs.Text.{FD, checkByte};
+ghost use Rattle.receiver_spec.specs.Seen.{endsOpening};
+ghost use Rattle.receiver_bytes_seen.specs.AsNumber.{seenOf};
+ghost use Rattle.receiver_stretches.specs.Run.{Passes};
+ghost use Rattle.receiver_stretch_start_end.specs.Ahead.{isIdle, startAhead, endAhead, textAhead};
+
+// A block's check byte. Notice 49, 4(1)(1-1)(c)(ア)
+fn block_check(block: &[u8]) -> u8
+    ensures { λ r. ⌜ r ≡ checkByte (now (block .entry)) ⌝ }
+{
+    check_behind(0, block) ^ 0xFE
+}
+
+// Past a start text that stands here whole from its `FD` on, up to its last byte.
+// Notice 49, 4(1)(1-1)(c)(ア) and (イ)
+fn start_ahead(s: State, bytes: &[u8]) -> StretchResult
+    requires { ⌜ isIdle (s .frame) ≡ true ⌝ }
+    requires { ⌜ endsOpening (seenOf (s .seen) (s .frame .count)) FD ≡ true ⌝ }
+    requires { ⌜ 34 ≤ length (now bytes) ⌝ }
+    ensures { λ r. ⌜ Passes s (take (startAhead (now (bytes .entry))) (now (bytes .entry))) r ⌝ }
+{
+    let block = &bytes[..32];
+    let check = block_check(block);
+    let read = read_start(block);
+    if (bytes[32] != 0xFE) | (bytes[33] != check) | !read.kept {
+        return StretchResult { state: s, at: 0 };
+    }
+    let header = read.header;
+    let frame = Frame {
+        place: 34,
+        kind: block[2],
+        picture: block[1],
+        part: 0,
+        due: 0,
+        check,
+        count: 5,
+    };
+    let seen = seen_behind(s.seen, &bytes[..34]);
+    let state = State {
+        seen,
+        frame,
+        header,
+        modes: [0; 8],
+    };
+    StretchResult { state, at: 34 }
+}
+
+// Past the due end text if it stands here whole from its `FD` on, up to its last byte.
+// Notice 49, 4(1)(1-1)(c)(ア) and (ウ)
+fn end_ahead(s: State, bytes: &[u8]) -> StretchResult
+    requires { ⌜ endsOpening (seenOf (s .seen) (s .frame .count)) FD ≡ true ⌝ }
+    requires { ⌜ 34 ≤ length (now bytes) ⌝ }
+    ensures { λ r. ⌜ Passes s (take (endAhead s (now (bytes .entry))) (now (bytes .entry))) r ⌝ }
+{
+    let f = s.frame;
+    let header = s.header;
+    let block = &bytes[..32];
+    let picture = block[1];
+    let kind = block[2];
+    if !is_gap(f) | (picture != header.picture) | (kind != kind_of(f.part, f.due)) {
+        return StretchResult { state: s, at: 0 };
+    }
+    let check = block_check(block);
+    let radars = header.radars;
+    let read = read_end(radars, block);
+    if (bytes[32] != 0xFE) | (bytes[33] != check) | !read.kept {
+        return StretchResult { state: s, at: 0 };
+    }
+    let modes = read.modes;
+    let frame = Frame {
+        place: 34,
+        kind,
+        picture,
+        part: f.part,
+        due: f.due,
+        check,
+        count: 5,
+    };
+    let seen = seen_behind(s.seen, &bytes[..34]);
+    let state = State {
+        seen,
+        frame,
+        header,
+        modes,
+    };
+    StretchResult { state, at: 34 }
+}
+
+// Past a start or end text, up to its last byte, where it stands here whole behind the opening.
+// Notice 49, 4(1)(1-1)(c)(ア)
+pub(crate) fn text_ahead(s: State, bytes: &[u8]) -> StretchResult
+    ensures { λ r. ⌜ Passes s (take (textAhead s (now (bytes .entry))) (now (bytes .entry))) r ⌝ }
+{
+    let f = s.frame;
+    if (bytes.len() < 34) | !ends_opening(s.seen, f.count, 0xFD) {
+        return StretchResult { state: s, at: 0 };
+    }
+    if is_idle(f) {
+        return start_ahead(s, bytes);
+    }
+    end_ahead(s, bytes)
+}

@@ -1,7 +1,0 @@
--- Demand 2, entire: written reads back, and complete is rewritten. Assumes nothing.
-use Rattle.relay.specs.Demand2.{Demand2}
-use Rattle.relay.proofs.ReadsBack.{reads-back}
-use Rattle.relay.proofs.Rewriting.{rewritten}
-
-pub demand-2 : Demand2
-demand-2 = record { readsBack = reads-back; rewritten = rewritten }

@@ -1,0 +1,25 @@
+-- Bytes left in the text under way, within 01's bounds. Assumes nothing.
+use mathlib.Core.Path.{_≡_}
+use Prim.Native.Nat.{ℕ, _+_, _-_, _≤_}
+use mathlib.Core.Bool.{true, false}
+use lib.Dec.{eqb}
+use Rattle.text.specs.Kinds.{blockLength}
+use Rattle.receiver_spec.specs.State.{State, isPossible}
+use Rattle.service_bytes_left.specs.declared.left.BytesLeftResult.{BytesLeftResult}
+use Rattle.service_bytes_left.specs.declared.left.BytesLeftResult.the-variants.{Bytes, Refused}
+
+-- the most that a text has: five control bytes, a block of 2,003, and three bytes behind it
+abbrev pub longest : ℕ
+longest = 2011
+
+-- once the kind is read: what is left of the block, `FE`, check byte and `FF`.
+-- Notice 49, 4(1)(1-1)(b), 4(1)(1-2)(b), 4(2)(b)
+unfoldable pub remainder : State → ℕ
+remainder s = blockLength (s .kind) + 3 - s .place
+
+-- 01: 2 for an impossible state, 0 at place 0, and else a number between bounds
+pub data IsBytesLeft (s : State) : BytesLeftResult → Type 0 where
+  impossible : isPossible s ≡ false → IsBytesLeft s (Refused 2)
+  between : isPossible s ≡ true → s .place ≡ 0 → IsBytesLeft s (Bytes 0)
+  unread : {n : ℕ} → isPossible s ≡ true → eqb (s .place) 0 ≡ false → s .kind ≡ 0 → n ≤ longest → IsBytesLeft s (Bytes n)
+  known : {n : ℕ} → isPossible s ≡ true → eqb (s .place) 0 ≡ false → eqb (s .kind) 0 ≡ false → remainder s ≤ n → n ≤ longest → IsBytesLeft s (Bytes n)

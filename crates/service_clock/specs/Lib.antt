@@ -1,0 +1,2 @@
+-- 01's section "Services": clock steps. Assumes nothing.
+pub mod Clock

@@ -1,0 +1,4 @@
+-- The laws and the proofs of the functions. Assumes nothing.
+pub mod Feeding
+pub mod OnePart
+pub mod PayloadPlaces

@@ -1,0 +1,2 @@
+-- 01's section "Services": stored parts. Assumes nothing.
+pub mod Stored

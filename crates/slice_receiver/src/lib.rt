@@ -1,3 +1,0 @@
-// Layer 2, the receiver's slice call. It goes past whole stretches of bytes at once, and equals 01's
-// receiver as `stream` defines it, for every state, grid and slice.
-pub mod calls; // the slice call

@@ -1,2 +1,0 @@
--- What the code decides is 01's step.
-pub mod Same

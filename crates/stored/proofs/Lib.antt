@@ -1,2 +1,0 @@
--- The laws and the proofs of the functions. Assumes nothing.
-pub mod Payloads

@@ -1,2 +1,0 @@
--- Laws of what many bytes come to.
-pub mod Tallies

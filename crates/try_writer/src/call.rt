@@ -1,0 +1,75 @@
+// One call of the writer. Its head is the part (1 byte), the time (12), radars (8), clock (2), picture
+// code (1), modes (8), the output's length (2) and the payload's length (2); of a number's two bytes
+// the high one comes first.
+use crate::arguments::byte_at;
+use crate::arguments::eight_at;
+use crate::arguments::two_at;
+use crate::print::end_line;
+use crate::print::number;
+use crate::print::word;
+use crate::read_back::read_back;
+use crate::sums::adler;
+use text::header::WriterHeader;
+use writer::part::WriteResult;
+use writer::part::write_part;
+
+fn time(head: &[u8]) -> [u8; 12] {
+    [
+        byte_at(head, 1),
+        byte_at(head, 2),
+        byte_at(head, 3),
+        byte_at(head, 4),
+        byte_at(head, 5),
+        byte_at(head, 6),
+        byte_at(head, 7),
+        byte_at(head, 8),
+        byte_at(head, 9),
+        byte_at(head, 10),
+        byte_at(head, 11),
+        byte_at(head, 12),
+    ]
+}
+
+fn header(head: &[u8]) -> WriterHeader {
+    WriterHeader {
+        time: time(head),
+        radars: eight_at(head, 13),
+        clock: two_at(head, 21),
+        picture: byte_at(head, 23),
+    }
+}
+
+fn line(what: &[u8], n: u64, sum: u64) {
+    word(what);
+    number(n);
+    number(sum);
+    end_line();
+}
+
+fn written(long: usize, output: &[u8]) {
+    line(b"wrote", long as u64, adler(output));
+    if long <= output.len() {
+        read_back(&output[..long]);
+    }
+}
+
+// The call, and the lines for what it returned and left
+fn attempt(head: &[u8], payload: &[u8], output: &mut [u8]) {
+    let answer = write_part(
+        byte_at(head, 0),
+        header(head),
+        eight_at(head, 24),
+        payload,
+        output,
+    );
+    match answer {
+        WriteResult::Bytes(long) => written(long, output),
+        WriteResult::Refused(row) => line(b"refused", row as u64, adler(output)),
+    }
+}
+
+pub fn call(head: &[u8], payload: &[u8]) {
+    let mut output = [0xAAu8; 65536];
+    let long = two_at(head, 32) as usize;
+    attempt(head, payload, &mut output[..long]);
+}

@@ -1,0 +1,10 @@
+-- From the blocks that are written to demand 2. Assumes nothing.
+pub mod RulesKept
+pub mod DataBlocks
+pub mod ReadsBack
+pub mod Places
+pub mod WrittenAgain
+pub mod HeldPart
+pub mod Rewriting
+pub mod BitsKept
+pub mod Theorem

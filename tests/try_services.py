@@ -1,0 +1,305 @@
+"""The lines that the program `try_services` must print.
+
+    python3 tests/try_services.py > crates/try_services/stdout
+
+They are those of the model of 01's services, tests/model/services.py. The samples and calls stand here and
+in the program, crates/try_services/src. A sum is Adler-32, begun at 0.
+
+    grid LENGTH SUM                     a grid, which the lines below it are about
+    mesh NUMBER level LEVEL             the level of a mesh
+    from LEVEL count COUNT              how many meshes are at or above a level
+    overlay FIRST SECOND THIRD laid SUM
+                                        lengths of the three grids, and the third's sum after the call;
+                                        before it the third is all `FF`
+    clock FROM TO steps STEPS           clock steps
+    part PART LENGTH SUM                a part that the writer made
+    altered, preceded, followed, cut, nothing LENGTH SUM
+                                        that part with one byte altered, with a byte before it, with a byte
+                                        behind it, without its last byte, and no byte of it
+    text K LENGTH SUM                   the payload of data text K of the bytes in the line above
+    taken TAKEN PLACE left BYTES        bytes left after so many bytes of an echo top part, where the state
+                                        has this place
+    state PLACE KIND PICTURE PART DUE CHECK SEEN-COUNT left BYTES
+                                        bytes left in a state of these numbers
+
+Where a service refuses, `refused` and the row of 01 stand in place of the last word and its number. In an
+overlay's line they stand in place of `laid`, and the sum is that of the third grid as it was.
+"""
+
+import sys
+import zlib
+from pathlib import Path
+
+sys.dont_write_bytecode = True
+sys.path.insert(0, str(Path(__file__).resolve().parent / "model"))
+import services
+import texts
+from receiver import Receiver
+from services import Refused
+from texts import CONTROL, GRID, INTENSITY, QUALITY, TOP, WriterHeader
+
+LINES = []
+
+
+# Words and numbers, as they come
+def line(*items):
+    LINES.append(" ".join(str(item) for item in items))
+
+
+def adler(data):
+    return zlib.adler32(bytes(data), 0)
+
+
+# A line that ends with a service's value under its name, or with its refusal. `wanted`, by hand, is either
+def answer(start, name, found, wanted):
+    assert wanted is None or found == wanted, f"{start}: {wanted} by hand, {found} by the model"
+    line(*start, *(("refused", found.row) if isinstance(found, Refused) else (name, found)))
+
+
+# ---- Samples
+
+# The bytes that a part may carry, in rising order
+ALLOWED = {part: bytes(b for b in range(256) if texts.is_payload_byte(part, b)) for part in texts.PARTS}
+assert [len(ALLOWED[part]) for part in texts.PARTS] == [225, 9, 65]
+
+
+# The two sample grids, in as many bytes as a call has: all 225 bytes in turn, in two orders
+def first_grid(size=GRID):
+    return bytes(ALLOWED[INTENSITY][(16 * i + 27) % 225] for i in range(size))
+
+
+def second_grid(size=GRID):
+    return bytes(ALLOWED[INTENSITY][(7 * i + 200) % 225] for i in range(size))
+
+
+FIRST, SECOND = first_grid(), second_grid()
+assert set(FIRST) == set(SECOND) == set(ALLOWED[INTENSITY]) and FIRST[:2] == b"\x1C\x2D"
+
+
+# `data` with `b` at `place`
+def altered(data, place, b):
+    return data[:place] + bytes([b]) + data[place + 1:]
+
+
+# ---- Levels and counts
+
+def mesh(grid, number, wanted=None):
+    answer(("mesh", number), "level", services.mesh_level(grid, number), wanted)
+
+
+def count(grid, level, wanted=None):
+    answer(("from", level), "count", services.meshes_from(grid, level), wanted)
+
+
+def levels():
+    line("grid", len(FIRST), adler(FIRST))
+    # From the first two bytes, by hand
+    known = {0: Refused(41), 1: 1, 2: 12, 3: 2, 4: 13, 40_001: Refused(41), 4_294_967_295: Refused(41)}
+    for number in (0, 1, 2, 3, 4, 19_999, 20_000, 39_999, 40_000, 40_001, 4_294_967_295):
+        mesh(FIRST, number, known.get(number))
+    for level in range(16):
+        count(FIRST, level, {0: 40_000, 15: Refused(41)}.get(level))
+    # 225 bytes have each level in 30 meshes; the grid has them 88 times, and 200 bytes more
+    for level in range(15):
+        assert 88 * 30 * (15 - level) <= services.meshes_from(FIRST, level) <= 89 * 30 * (15 - level)
+
+
+# A grid that is refused with `row` whatever is asked; where `row` is None only what there is not is refused
+def asked(grid, row):
+    line("grid", len(grid), adler(grid))
+    mesh(grid, 1, row)
+    mesh(grid, 40_001, row or Refused(41))
+    count(grid, 1, row)
+    count(grid, 15, row or Refused(41))
+
+
+def refusals():
+    sample = first_grid(20_001)
+    for size in (19_999, 20_001, 0):
+        asked(altered(sample, 0, 0)[:size], Refused(42))
+    for place, high, low in ((0, 0xF0, 0x0F), (10_000, 0xFE, 0xEF), (19_999, 0xF0, 0x0F)):
+        for b in (high, low):
+            asked(altered(sample, place, b)[:GRID], Refused(43))
+    # 42 comes before 43; and what lies behind a grid is none of it
+    asked(altered(sample, 0, 0xFF)[:19_999], Refused(42))
+    asked(altered(sample, 20_000, 0xFF), Refused(42))
+    asked(altered(sample, 20_000, 0xFF)[:GRID], None)
+
+
+# ---- Overlays
+
+# `wanted`, by hand, is a refusal, the third grid after the call, or None where neither is known
+def overlay(first, second, size, wanted=None):
+    third = b"\xFF" * size
+    refused, after = services.overlay(first, second, third)
+    start = ("overlay", len(first), len(second), size)
+    if refused is None:
+        assert len(after) == GRID and not isinstance(wanted, Refused) and wanted in (None, after)
+        line(*start, "laid", adler(after))
+    else:
+        assert refused == wanted and after == third
+        line(*start, "refused", refused.row, adler(after))
+
+
+def overlays():
+    zeros = bytes(GRID)
+    for grid in (FIRST, SECOND):
+        line("grid", GRID, adler(grid))
+    both = services.overlay(FIRST, SECOND, zeros)[1]
+    assert both not in (FIRST, SECOND)
+    overlay(FIRST, SECOND, GRID, both)
+    overlay(SECOND, FIRST, GRID, both)
+    overlay(FIRST, FIRST, GRID, FIRST)
+    overlay(SECOND, SECOND, GRID, SECOND)
+    overlay(FIRST, zeros, GRID, FIRST)
+    overlay(zeros, SECOND, GRID, SECOND)
+
+
+# The two sample grids in `a` and `b` bytes, with these bytes at `place`, and a third in `c` bytes
+def altered_overlay(a, b, c, place, one, other, wanted=None):
+    overlay(altered(first_grid(20_001), place, one)[:a], altered(second_grid(20_001), place, other)[:b], c, wanted)
+
+
+def overlay_refusals():
+    for n in (19_999, 20_001, 0):
+        for lengths in ((n, GRID, GRID), (GRID, n, GRID), (GRID, GRID, n)):
+            altered_overlay(*lengths, 0, 0, 0, Refused(42))
+    for place in (0, 10_000, 19_999):
+        for pair in ((0xF0, 0), (0x0F, 0), (0, 0xF0), (0, 0x0F)):
+            altered_overlay(GRID, GRID, GRID, place, *pair, Refused(43))
+    # 42 comes before 43; and what lies behind a grid is none of it
+    for lengths in ((19_999, GRID, GRID), (GRID, 20_001, GRID), (GRID, GRID, 19_999)):
+        altered_overlay(*lengths, 0, 0xFF, 0xFF, Refused(42))
+    altered_overlay(GRID, GRID, GRID, 20_000, 0xFF, 0xFF)
+
+
+# ---- Clocks
+
+# With the steps by hand
+CLOCKS = ((0, 0, 0), (0, 1, 1), (1, 0, 16_383), (16_383, 0, 1), (0, 16_383, 16_383), (65_535, 0, 1),
+          (0, 65_535, 16_383), (16_384, 0, 0), (5, 65_530, 16_373), (40_000, 3, 9_155))
+
+
+def clocks():
+    for a, b, steps in CLOCKS:
+        answer(("clock", a, b), "steps", services.clock_steps(a, b), steps)
+
+
+# ---- Stored parts
+
+HEADING = WriterHeader((1, 9, 9, 9, 0, 6, 0, 7, 1, 2, 1, 0), (0xA0, 0xA7, 0xB3, *(0,) * 5), 9983, 0xCC)
+MODES = (2, 1, 3, *(0,) * 5)
+
+
+# A part with data, or with a payload of all zeros
+def made(part, echoes=True):
+    size = texts.payload_length(part)
+    payload = bytes(size)
+    if echoes:
+        payload = FIRST if part == INTENSITY else bytes(ALLOWED[part][i % len(ALLOWED[part])] for i in range(size))
+    return texts.written_part(part, HEADING, MODES, payload)
+
+
+def text(data, k, wanted):
+    found = services.text_payload(data, k)
+    assert found == wanted
+    line("text", k, len(found), adler(found))
+
+
+# "empty unless these are exactly one undamaged part": text 1 of bytes that are not
+def damaged(word, data):
+    line(word, len(data), adler(data))
+    text(data, 1, b"")
+
+
+# `shares` are the payloads of its data texts, by hand
+def part_lines(part, data, length, shares):
+    assert len(data) == length
+    line("part", part, length, adler(data))
+    for k in (*range(13), 255):
+        text(data, k, shares[k - 1] if 1 <= k <= len(shares) else b"")
+    damaged("preceded", b"\x16" + data)
+    damaged("followed", data + b"\x16")
+    damaged("nothing", b"")
+    damaged("cut", data[:-1])
+    middle = length // 2
+    damaged("altered", altered(data, middle, data[middle] ^ 1))
+
+
+def payloads():
+    tops, qualities = bytes(i % 9 for i in range(400)), bytes(i % 65 for i in range(100))
+    part_lines(INTENSITY, made(INTENSITY), 20_190, [FIRST[i:i + 2000] for i in range(0, GRID, 2000)])
+    part_lines(TOP, made(TOP), 491, [tops])
+    part_lines(QUALITY, made(QUALITY), 191, [qualities])
+    # NO ECHO: no data texts
+    part_lines(INTENSITY, made(INTENSITY, False), 80, [])
+
+
+# ---- Bytes left
+
+# Bytes taken up to the end of each text of an echo top part, with the bytes taken before the text and its answer
+TEXTS = {40: (0, 1), 451: (40, 2), 491: (451, 3)}
+# The first three places, two within, and the last three of a text with a block of 32 bytes and of one with 403
+SHOWN = {1, 2, 3, 17, 200, 32, 33, 34, 403, 404, 405}
+
+
+# By hand: place and bytes left after so many bytes. The five control bytes stand between texts
+def by_hand(taken):
+    end = min(e for e in TEXTS if taken <= e)
+    place = 0 if taken == end else max(0, taken - TEXTS[end][0] - 5)
+    if place == 0:
+        return 0, 0
+    return place, 2006 - place if place < 3 else end - taken
+
+
+# After each byte that is answered, and at places that are shown
+def left():
+    receiver = Receiver()
+    answer(("taken", 0, 0), "left", services.bytes_left(receiver), 0)
+    for taken, b in enumerate(made(TOP), 1):
+        said = receiver.byte(b)
+        place, wanted = by_hand(taken)
+        assert said == TEXTS.get(taken, (0, 0))[1] and receiver.place == place
+        assert services.bytes_left(receiver) == wanted
+        if said != 0 or place in SHOWN:
+            answer(("taken", taken, place), "left", services.bytes_left(receiver), wanted)
+
+
+# Place, kind, picture code, part, due text, check byte, count of the bytes seen, and bytes left by hand
+STATES = [
+    # The longest text: its first place with the kind read, within, and its last
+    (3, 0x11, 0xCC, 1, 1, 0, 5, 2_003),
+    (1000, 0x15, 0xCC, 1, 5, 0, 5, 1_006),
+    (2005, 0x1A, 0xCC, 1, 10, 0, 5, 1),
+    # Not possible: past a text's last place, place 3 with no kind, a picture code at place 0, a data kind with
+    # no part open, an end kind where data is due, six bytes seen
+    (2006, 0x1A, 0xCC, 1, 10, 0, 5, Refused(2)),
+    (35, 0x10, 0xCC, 0, 0, 0, 5, Refused(2)),
+    (65_535, 0x10, 0xCC, 0, 0, 0, 5, Refused(2)),
+    (3, 0, 0xCC, 0, 0, 0, 5, Refused(2)),
+    (0, 0, 0xCC, 0, 0, 0, 5, Refused(2)),
+    (3, 0x11, 0xCC, 0, 0, 0, 5, Refused(2)),
+    (3, 0x2F, 0xCC, 2, 1, 0, 5, Refused(2)),
+    (0, 0, 0, 0, 0, 0, 6, Refused(2)),
+]
+
+
+def states():
+    for *frame, wanted in STATES:
+        receiver = Receiver()
+        (receiver.place, receiver.kind, receiver.picture, receiver.part, receiver.due, receiver.check,
+         seen) = frame
+        receiver.seen = CONTROL.rjust(seen, b"\0")
+        answer(("state", *frame), "left", services.bytes_left(receiver), wanted)
+
+
+if __name__ == "__main__":
+    levels()
+    refusals()
+    overlays()
+    overlay_refusals()
+    clocks()
+    payloads()
+    left()
+    states()
+    print("\n".join(LINES))

@@ -1,0 +1,371 @@
+"""The input of the program `try_text`, and the lines that it must print for it.
+
+    python3 tests/try_text.py --stream > crates/try_text/stdin
+    python3 tests/try_text.py > crates/try_text/stdout
+
+The vectors stand here alone. The input is requests, one behind the other: a byte for what is asked, two bytes
+for the length of the arguments, high byte first, and the arguments. The line of a request is its number, that
+is the byte in decimal, and the results, a space before each: of 1 to 42 one for each group of arguments, else
+one. A test's result is 1 or 0. Results are those of the model of 01, "A text", tests/model/texts.py.
+
+    1   is_picture_code         byte
+    2   is_radar_code           byte
+    3   is_kind                 byte
+    4   is_start_kind           byte
+    5   is_end_kind             byte
+    6   part_of_kind            byte
+    7   text_of_kind            byte
+    8   block_length            kind
+    9   data_block_length       part
+    10  payload_length          part
+    11  no_echo_of              status 1
+    12  mode_of                 byte
+    13  mode_byte               mode
+    20  kind_of                 part, text
+    21  data_texts              part, NO ECHO
+    22  part_length             part, NO ECHO
+    23  is_payload_byte         part, byte
+    24  clock_of                high part, low part
+    25  radar_follows           radar before, radar
+    26  is_mode_byte            radar, byte
+    27  is_mode_for             radar, mode
+    40  is_leap_year            year (two bytes)
+    41  days_in                 year (two bytes), month
+    42  is_moment               year (two bytes), month, day, hour, minute
+    50  is_time                 12 digits
+    51  highest_mode            8 modes
+    52  is_radar_list           8 radars
+    53  are_modes_for           8 radars, 8 modes
+    54  is_writer_header              12 digits of the time, 8 radars, clock (two bytes), picture code
+    55  is_writer_input               the same, 8 modes
+    56  writer_header_of              as 54, mode, NO ECHO; the results are what the writer takes, as in 54
+    60  xor_all                 bytes
+    61  check_byte              bytes
+    62  are_zero                bytes
+    63  are_payload_bytes       part, bytes
+    64  put                     place, bytes; the results are an output of eight bytes, all `AA` before
+"""
+
+import struct
+import sys
+from pathlib import Path
+
+sys.dont_write_bytecode = True
+sys.path.insert(0, str(Path(__file__).resolve().parent / "model"))
+import texts
+from texts import Header, WriterHeader
+
+# ---- What is asked
+
+# The numbers of what a writer takes in a row, as requests and lines have them
+WRITER_HEADER = "12B8BHB"
+
+
+def row(writer_header):
+    return *writer_header.time, *writer_header.radars, writer_header.clock, writer_header.picture
+
+
+# What a writer takes of a header, of its numbers in a row
+def writer_header(numbers):
+    return WriterHeader(numbers[:12], numbers[12:20], *numbers[20:])
+
+
+# A header: what a writer takes of it, mode and NO ECHO
+def header(numbers):
+    return Header(*writer_header(numbers[:22]), *numbers[22:])
+
+
+# 01 has no such call. What its own comment says: bytes from a place on, and where they do not fit the output
+# as it was
+def put(place, *data):
+    output = bytearray(b"\xAA" * 8)
+    if place + len(data) <= len(output):
+        output[place:place + len(data)] = data
+    return tuple(output)
+
+
+# By number: the layout of one group of arguments, in the letters of Python's struct (none: bytes, as many as
+# there are), and what the model answers to its numbers
+ASKED = {
+    1: ("B", texts.is_picture_code),
+    2: ("B", texts.is_radar_code),
+    3: ("B", texts.is_kind),
+    4: ("B", texts.is_start_kind),
+    5: ("B", texts.is_end_kind),
+    6: ("B", texts.part_of_kind),
+    7: ("B", texts.text_of_kind),
+    8: ("B", texts.block_length),
+    9: ("B", texts.data_block_length),
+    10: ("B", texts.payload_length),
+    11: ("B", texts.no_echo_of),
+    12: ("B", texts.mode_of),
+    13: ("B", texts.mode_byte),
+    20: ("BB", texts.kind_of),
+    21: ("BB", texts.data_texts),
+    22: ("BB", texts.part_length),
+    23: ("BB", texts.is_payload_byte),
+    24: ("BB", texts.clock_of),
+    25: ("BB", texts.radar_follows),
+    26: ("BB", texts.is_mode_byte),
+    27: ("BB", texts.is_mode_for),
+    40: ("H", texts.is_leap_year),
+    41: ("HB", texts.days_in),
+    42: ("HBBBB", texts.is_moment),
+    50: ("12B", lambda *digits: texts.is_time(digits)),
+    51: ("8B", lambda *modes: texts.highest_mode(modes)),
+    52: ("8B", lambda *radars: texts.is_radar_list(radars)),
+    53: ("16B", lambda *both: texts.are_modes_for(both[:8], both[8:])),
+    54: (WRITER_HEADER, lambda *numbers: texts.is_writer_header(writer_header(numbers))),
+    55: (WRITER_HEADER + "8B", lambda *numbers: texts.is_writer_input(writer_header(numbers[:22]), numbers[22:])),
+    56: (WRITER_HEADER + "BB", lambda *numbers: row(texts.writer_header_of(header(numbers)))),
+    60: (None, lambda *block: texts.xor_all(block)),
+    61: (None, lambda *block: texts.check_byte(block)),
+    62: (None, lambda *data: not any(data)),
+    63: (None, lambda part, *data: all(texts.is_payload_byte(part, b) for b in data)),
+    64: (None, put),
+}
+
+REQUESTS, LINES = [], []
+
+
+# One request: groups of numbers are its arguments. From 50 on there is one group
+def ask(number, *groups):
+    layout, answer = ASKED[number]
+    assert number < 50 or len(groups) == 1
+    args = b"".join(struct.pack(f">{layout or f'{len(group)}B'}", *group) for group in groups)
+    REQUESTS.append(struct.pack(">BH", number, len(args)) + args)
+    results = []
+    for group in groups:
+        result = answer(*group)
+        results += result if isinstance(result, tuple) else [result]
+    LINES.append(" ".join(map(str, map(int, [number, *results]))))
+
+
+# The same of each byte, or of what stands before it with each byte
+def ask_each_byte(number, *before):
+    ask(number, *((*before, b) for b in range(256)))
+
+
+# ---- The vectors
+
+# A list of eight, from its bytes in hexadecimal
+def eight(text):
+    return tuple(bytes.fromhex(text).ljust(8, b"\0"))
+
+
+# The digits of a time
+def time(text):
+    return tuple(map(int, text))
+
+
+# Every byte: its codes, its kind, its mode bits, the part or the mode that it is; and which of the parts 0
+# to 4 may carry it
+def bytes_of_all_sorts():
+    for number in range(1, 14):
+        ask_each_byte(number)
+    for part in range(5):
+        ask_each_byte(23, part)
+
+
+# Parts 0 to 5 and 255: the kinds of texts 0 to 31 and 255, and lengths without NO ECHO and with it
+def kinds_and_lengths():
+    parts = *range(6), 255
+    for part in parts:
+        ask(20, *((part, text) for text in (*range(32), 255)))
+    for number in (21, 22):
+        ask(number, *((part, noecho) for part in parts for noecho in (False, True)))
+
+
+# Every high part of the clock with some low parts, and the high part of 01's clock, `4D 7F`, with every one;
+# the two rows of 01, no mode, all alike, and a mode 3 at each place
+def modes():
+    for low in (0, 1, 64, 127):
+        ask(24, *((high, low) for high in range(128)))
+    ask(24, *((0x4D, low) for low in range(128)))
+    lists = ["01 02 03", "02 01 01 01", "", "01 " * 8, "03 " * 8]
+    lists += ["02 " * i + "03 " + "02 " * (3 - i) + "01 " * 4 for i in range(4)]
+    lists += ["01 " * 4 + "02 " * i + "03 " + "02 " * (3 - i) for i in range(4)]
+    for some in map(eight, lists):
+        ask(51, some)
+
+
+YEARS = (
+    *(0, 1, 4, 99, 100, 400, 1582, 1600, 1700, 1900, 1987, 1999),
+    *(2000, 2023, 2024, 2100, 9999, 10_000),
+)
+MORE_YEARS = (*range(1890, 1911), *range(1990, 2011), *range(2090, 2111), *range(9990, 10_011))
+
+
+# Leap years; of each year the days of its months, then which of the days 0 to 32 months 0 to 13 have; of more
+# years, which of the days 28 to 30 February has. Of the hours 0 to 25 of a day, which of the minutes 0 to 61
+# they have
+def calendar():
+    ask(40, *((year,) for year in (*YEARS, *range(1600, 2401))))
+    for year in YEARS:
+        ask(41, *((year, month) for month in range(1, 13)))
+        for month in range(14):
+            ask(42, *((year, month, day, 0, 0) for day in range(33)))
+    ask(42, *((year, 2, day, 23, 59) for year in MORE_YEARS for day in (28, 29, 30)))
+    for hour in range(26):
+        ask(42, *((1987, 8, 15, hour, minute) for minute in range(62)))
+
+
+# The times of 01, and the first and the last
+GOOD_TIMES = ("198708151215", "199906071210", "200002290000", "000001010000", "999912312359")
+# A rule broken in each: that of the date, of the hour or of the minute
+BAD_TIMES = (
+    *("199902290000", "200002300000", "198700151215", "198713151215", "198708001215", "198708321215"),
+    *("198706311215", "198708152400", "198708151260", "000000000000"),
+)
+
+
+# A digit above 9, where the number that it would give is a right one; then others that are no digits, ASCII
+# among them
+def bad_digits():
+    whole = time("198708151215")
+    for place in (3, 2, 1, 5, 7, 9, 11):
+        yield whole[:place] + (10,) + whole[place + 1:]
+    yield time("1987081512") + (0, 59)
+    yield (10,) + whole[1:]
+    yield (255,) * 12
+    yield tuple(b"198708151215")
+
+
+def times():
+    for digits in (*map(time, GOOD_TIMES + BAD_TIMES), *bad_digits()):
+        ask(50, digits)
+
+
+# One, two, seven and eight radars
+GOOD_LISTS = (
+    *("A0", "A5", "B6", "A3 A5", "A0 B6", "A0 A1 A2 A3 A4 A5 A7", "A0 A1 A2 A3 A4 A5 A7 A8"),
+    *("AF B0 B1 B3 B4 B5 B6", "A5 A7 AF B0 B1 B3 B4 B6"),
+)
+# A rule broken in each: rising, no code twice, no gap, known codes, one at least
+BAD_LISTS = (
+    *("A5 A3", "A5 A5", "A0 A1 A2 A3 A4 A5 A8 A7", "A0 A1 A2 A3 A4 A5 A7 A7", "A3 00 A5"),
+    *("A3 00 00 00 00 00 00 A5", "A6", "A5 A6", "A5 A6 A7", "A0 B2", "9F A0", "A0 B7"),
+    *("A0 A1 A2 A3 A4 A5 A7 FF", "A0 01", "00 A5", ""),
+)
+FULL = "A0 A1 A2 A3 A4 A5 A7 A8"
+# Three that keep the rule; then a mode missing, a mode too many, and a mode above 3, at the first place and
+# at the last
+MODES = (
+    *(("A5", "01"), ("A3 A5", "03 02"), (FULL, "01 02 03 01 02 03 01 02")),
+    *(("A5", ""), ("A5", "01 01"), ("A5", "01 00 00 00 00 00 00 03"), ("A5", "04"), ("A3 A5", "02")),
+    *((FULL, "01 02 03 01 02 03 01 00"), (FULL, "01 02 03 01 02 03 01 FF")),
+)
+
+
+# Every byte after each code and after none; every byte as a mode, and as an end block's byte for one
+def radars():
+    for before in (0, *texts.RADARS):
+        ask_each_byte(25, before)
+    for radar in (0x00, 0xA0, 0xA5, 0xB6):
+        ask_each_byte(26, radar)
+        ask_each_byte(27, radar)
+    for some in map(eight, GOOD_LISTS + BAD_LISTS):
+        ask(52, some)
+    for some, their_modes in MODES:
+        ask(53, eight(some) + eight(their_modes))
+
+
+# What 01's start and end text give, and then other fields in their place
+SAMPLE = {"time": "199906071210", "radars": "A5", "clock": 9983, "picture": 0xCC, "modes": "01"}
+# Headings and modes that keep every rule
+GOOD_INPUT = (
+    *({}, {"clock": 0}, {"clock": 16383}, {"picture": 0xC0}, {"picture": 0xF1}, {"time": "200002290000"}),
+    *({"radars": "A3 A5", "modes": "03 01"}, {"radars": FULL, "modes": "01 02 03 01 02 03 01 02"}),
+)
+# The clock, the picture code, the time or the radars break their rule; then the modes do, and the header
+# does not
+BAD_INPUT = (
+    *({"clock": 16384}, {"clock": 65535}, {"picture": 0x00}, {"picture": 0xC3}, {"picture": 0xFD}),
+    *({"time": "199902291210"}, {"time": "199913071210"}, {"time": "199906072410"}),
+    *({"time": "199906071260"}, {"time": (*time("1999060712"), 0, 10)}),
+    *({"radars": "", "modes": ""}, {"radars": "A6"}, {"radars": "A5 A3", "modes": "01 01"}),
+    *({"radars": "A5 A5", "modes": "01 01"}, {"radars": "A3 00 A5", "modes": "01 00 01"}),
+    *({"modes": ""}, {"modes": "04"}, {"modes": "01 01"}, {"modes": "01 00 00 00 00 00 00 02"}),
+    {"radars": "A3 A5"},
+)
+# Clock, picture code, mode and NO ECHO of headers; a writer takes not the last two
+HEADERS = ((9983, 0xCC, 1, True), (16383, 0xF1, 3, False), (0, 0, 0, False))
+
+
+def writer_headers():
+    for other in GOOD_INPUT + BAD_INPUT:
+        case = SAMPLE | other
+        given = row(WriterHeader(time(case["time"]), eight(case["radars"]), case["clock"], case["picture"]))
+        ask(54, given)
+        ask(55, given + eight(case["modes"]))
+    for clock, picture, mode, noecho in HEADERS:
+        given = row(WriterHeader(time(SAMPLE["time"]), eight(SAMPLE["radars"]), clock, picture))
+        ask(56, (*given, mode, noecho))
+
+
+# Byte i of the generated block of n bytes: (31 * i + i / 7 + n) mod 256
+def generated(n):
+    return bytes((31 * i + i // 7 + n) % 256 for i in range(n))
+
+
+# Blocks of one byte; 01's start block, whose check byte is `4F`, and its end block, `D4`; generated blocks
+# of 0 to 40 bytes and of the lengths of data blocks
+def blocks():
+    start = bytes.fromhex("FD CC 10 00 08 04 4D 7F") + b"1999.06.07.12.10" + b"\xA5" + bytes(7)
+    end = bytes.fromhex("FD CC 1F 04") + bytes(28)
+    known = b"\x00", b"\xFD", b"\xFE", start, end
+    for block in (*known, *map(generated, (*range(41), 103, 403, 2003))):
+        ask(60, block)
+        ask(61, block)
+
+
+# Zeros, and one other byte among them: at the front, at the end and in the middle
+ALMOST_ZEROS = (
+    *(b"", b"\0", b"\1", bytes(40), b"\1" + bytes(39), bytes(39) + b"\1"),
+    bytes(20) + b"\x80" + bytes(19),
+)
+
+
+# For parts 0 to 4 no bytes, and the bytes that each of the parts 1 to 3 may carry; for these parts their own
+# with one that they may not, at the front and at the end
+def payloads():
+    for data in ALMOST_ZEROS:
+        ask(62, data)
+    carried = {part: [b for b in range(256) if texts.is_payload_byte(part, b)] for part in texts.PARTS}
+    for part in range(5):
+        for data in ([], *carried.values()):
+            ask(63, (part, *data))
+    for part, data in carried.items():
+        ask(63, (part, 0xFF, *data))
+        ask(63, (part, *data, 0xFF))
+
+
+# Places and bytes: at the front, in the middle and at the end of the output, and over all of it; one place
+# too far, one byte too many; none at the end, and none past it
+PUTS = (
+    *((0, b"abc"), (3, b"abc"), (5, b"abc"), (7, b"a"), (0, b"abcdefgh")),
+    *((6, b"abc"), (8, b"a"), (255, b"a"), (1, b"abcdefgh"), (0, b"abcdefghi")),
+    *((0, b""), (8, b""), (9, b"")),
+)
+
+
+def puts():
+    for place, data in PUTS:
+        ask(64, (place, *data))
+
+
+if __name__ == "__main__":
+    bytes_of_all_sorts()
+    kinds_and_lengths()
+    modes()
+    calendar()
+    times()
+    radars()
+    writer_headers()
+    blocks()
+    payloads()
+    puts()
+    if sys.argv[1:] == ["--stream"]:
+        sys.stdout.buffer.write(b"".join(REQUESTS))
+    else:
+        print("\n".join(LINES))

@@ -1,0 +1,255 @@
+"""The input of the program `try_writer`, and the lines that it must print for it.
+
+    python3 tests/try_writer.py --stream > crates/try_writer/stdin
+    python3 tests/try_writer.py > crates/try_writer/stdout
+
+The calls stand here alone. The input is calls, one behind the other. A call is what the writer takes, of
+a number's two bytes the high one first:
+
+    byte 0            part
+    bytes 1 to 12     digits of the time
+    bytes 13 to 20    radars
+    bytes 21 and 22   clock
+    byte 23           picture code
+    bytes 24 to 31    modes
+    bytes 32 and 33   the output's length
+    bytes 34 and 35   the payload's length
+    from byte 36 on   the payload
+
+The output is all `AA` before the writer has it. What was written goes to a fresh receiver, by as many slice
+calls as that takes. The lines of a call, in decimal:
+
+    wrote LENGTH SUM          the length of what was written
+    took COUNT ANSWER         one for each slice call
+    held CONTENTS             after answer 3: header, modes, the grid's sum
+    refused NUMBER SUM        a row of 01's table, 31 to 34
+
+A sum is Adler-32, begun at 0. SUM is over the whole output after the call: what was written, and behind it, or
+after a refusal everywhere, `AA`. The lines are those of the models of 01's texts and receiver, tests/model,
+and of rows 31 to 34 of its table. Every part that is written must give what it was given.
+"""
+
+import struct
+import sys
+import zlib
+from pathlib import Path
+
+sys.dont_write_bytecode = True
+sys.path.insert(0, str(Path(__file__).resolve().parent / "model"))
+import texts
+from receiver import Receiver
+from texts import INTENSITY, QUALITY, TOP, WriterHeader
+
+CALLS, LINES = [], []
+
+
+def adler(data):
+    return zlib.adler32(bytes(data), 0)
+
+
+# ---- What the writer takes
+
+def digits(text):
+    return tuple(map(int, text))
+
+
+# A list of eight, from its bytes in hexadecimal
+def eight(text):
+    return tuple(bytes.fromhex(text).ljust(8, b"\0"))
+
+
+HEADINGS = {
+    INTENSITY: WriterHeader(digits("199906071210"), eight("A5"), 9983, 0xCC),
+    TOP: WriterHeader(digits("200002292359"), eight("A0 A7 B3"), 16_383, 0xC0),
+    QUALITY: WriterHeader(digits("000001010000"), eight("A5 A7 AF B0 B1 B3 B5 B6"), 0, 0xF1),
+}
+MODES = {
+    INTENSITY: eight("01"),
+    TOP: eight("02 01 01"),
+    QUALITY: eight("01 02 03 01 02 03 01 02"),
+}
+
+
+# The bytes that a part may carry, in rising order, over and over; a part that is none goes by quality here
+# and above
+def payload_of(part, size):
+    allowed = [b for b in range(256) if texts.is_payload_byte(part if part in texts.PARTS else QUALITY, b)]
+    return bytes(allowed[i % len(allowed)] for i in range(size))
+
+
+# `data` with `b` at `place`
+def altered(data, place, b):
+    return data[:place] + bytes([b]) + data[place + 1:]
+
+
+# ---- The writer
+
+# Rows 31 to 34 of 01's table, which "the writer tests .. in order"; 0 where none is met
+def refusal(part, header, modes, payload, length):
+    # "part is not 1, 2 or 3 (intensity, top, quality)"
+    if part not in (1, 2, 3):
+        return 31
+    # "header or modes break a rule above"
+    if not texts.is_writer_input(header, modes):
+        return 32
+    # "payload not 20,000, 400 or 100 bytes by part, or a forbidden byte"
+    if not texts.is_payload(part, payload):
+        return 33
+    # "output shorter than the part"
+    if length < len(texts.written_part(part, header, modes, payload)):
+        return 34
+    return 0
+
+
+# One call: its bytes, its line, and the bytes written. `wanted`, by hand, is a row's number or the length of
+# what is written. "the rest of the output is untouched"; a refusal leaves "output unchanged, 0 written"
+def attempt(wanted, part, header, modes, payload, length):
+    head = struct.pack(">B12B8BHB", part, *header.time, *header.radars, header.clock, header.picture)
+    CALLS.append(head + struct.pack(">8BHH", *modes, length, len(payload)) + payload)
+    output = bytearray(b"\xAA" * length)
+    row = refusal(part, header, modes, payload, length)
+    if row != 0:
+        assert row == wanted, f"row {wanted} by hand, {row} by the model"
+        LINES.append(f"refused {row} {adler(output)}")
+        return b""
+    data = texts.written_part(part, header, modes, payload)
+    assert len(data) == wanted and texts.undamaged_part(data)
+    output[:wanted] = data
+    assert len(output) == length
+    LINES.append(f"wrote {wanted} {adler(output)}")
+    return data
+
+
+# The same with the header and modes of a part
+def usual(wanted, part, payload, length):
+    model = part if part in texts.PARTS else QUALITY
+    return attempt(wanted, part, HEADINGS[model], MODES[model], payload, length)
+
+
+# ---- Parts, read back
+
+# The line for what a receiver holds
+def held(receiver):
+    header = receiver.header
+    numbers = [*header.time, *header.radars, header.clock, header.picture, header.mode, int(header.noecho)]
+    return " ".join(map(str, ["held", *numbers, *receiver.modes, adler(receiver.grid)]))
+
+
+# Slice calls of a fresh receiver on what was written, until it is used up, and their lines. Header, modes and
+# payload are those given; `mode`, `noecho` and `answers` are by hand
+def read_back(data, header, modes, payload, mode, noecho, answers):
+    receiver, found, at = Receiver(), [], 0
+    while at < len(data):
+        answer, count = receiver.slice(data, at)
+        at += count
+        found.append(answer)
+        LINES.append(f"took {count} {answer}")
+    LINES.append(held(receiver))
+    assert found == answers, f"answers {answers} by hand, {found} by the model"
+    assert texts.writer_header_of(receiver.header) == header and receiver.modes == modes
+    assert receiver.header.mode == mode and receiver.header.noecho == noecho
+    assert receiver.grid == payload.ljust(texts.GRID, b"\0")
+
+
+# One part, with all the bytes that it may carry or with zeros alone
+def through(part, echoes, size, length, wanted, mode, answers):
+    payload = payload_of(part, size) if echoes else bytes(size)
+    data = usual(wanted, part, payload, length)
+    read_back(data, HEADINGS[part], MODES[part], payload, mode, wanted == 80, answers)
+
+
+def parts():
+    assert len(set(payload_of(INTENSITY, 20_000))) == 225 and max(payload_of(INTENSITY, 20_000)) == 0xEE
+    assert set(payload_of(TOP, 400)) == set(range(9)) and set(payload_of(QUALITY, 100)) == set(range(0x41))
+    for length in (20_190, 20_200):
+        through(INTENSITY, True, 20_000, length, 20_190, 1, [1, *(2,) * 10, 3])
+    for length in (80, 20_200):
+        through(INTENSITY, False, 20_000, length, 80, 1, [1, 3])
+    for length in (491, 600):
+        through(TOP, True, 400, length, 491, 2, [1, 2, 3])
+    for length in (80, 600):
+        through(TOP, False, 400, length, 80, 2, [1, 3])
+    # "Applying NO ECHO to quality" is a misreading
+    for echoes in (True, False):
+        for length in (191, 300):
+            through(QUALITY, echoes, 100, length, 191, 3, [1, 2, 3])
+
+
+# ---- Refusals
+
+# With what keeps every other rule for some part
+def row_31():
+    usual(31, 0, bytes(20_000), 20_190)
+    usual(31, 4, bytes(100), 191)
+    usual(31, 255, bytes(400), 491)
+
+
+# One field of what keeps every rule is altered, or radars and modes; first none is
+def row_32():
+    good = WriterHeader(digits("198708151215"), eight("A3 A5"), 16_383, 0xD4)
+    good_modes = eight("02 01")
+    calls = [({"picture": code}, good_modes) for code in (0x00, 0xCD, 0xFD)]
+    calls += [({"clock": clock}, good_modes) for clock in (16_384, 65_535)]
+    # No leap day, month 13, day 0, hour 24, minute 60, a digit above 9
+    times = ["199902291215", "198713151215", "198708001215", "198708152415", "198708151260"]
+    calls += [({"time": time}, good_modes) for time in (*map(digits, times), (*digits("19870815120"), 10))]
+    # Falling, the same twice, none, a code that is none, one after `00`
+    calls += [({"radars": eight("A5 A3")}, good_modes), ({"radars": eight("A5 A5")}, good_modes)]
+    calls += [({"radars": eight("")}, eight("")), ({"radars": eight("A3 A6")}, good_modes)]
+    calls += [({"radars": eight("A3 00 A5")}, eight("02 00 01"))]
+    # Missing at one radar, at all; where there is no radar; not 1 to 3
+    lists = ("02", "", "02 01 01", "02 01 00 00 00 00 00 03", "04 01", "02 FF")
+    calls += [({}, eight(modes)) for modes in lists]
+    data = attempt(191, QUALITY, good, good_modes, bytes(100), 191)
+    read_back(data, good, good_modes, bytes(100), 2, False, [1, 2, 3])
+    for fields, modes in calls:
+        attempt(32, QUALITY, good._replace(**fields), modes, bytes(100), 191)
+
+
+# Each output long enough
+def row_33():
+    for part, size, length, zeros, forbidden in (
+        (INTENSITY, 20_000, 20_190, 19_999, ((0, 0x0F), (10_000, 0xF0), (19_999, 0xEF))),
+        (TOP, 400, 491, 0, ((0, 0x09), (399, 0x80))),
+        (QUALITY, 100, 191, 400, ((0, 0x41), (99, 0x80))),
+    ):
+        usual(33, part, payload_of(part, size - 1), length)
+        usual(33, part, payload_of(part, size + 1), length)
+        usual(33, part, bytes(zeros), length)
+        for place, b in forbidden:
+            usual(33, part, altered(payload_of(part, size), place, b), 20_190)
+
+
+# Quality's part is as long with a payload of all zeros
+def row_34():
+    for part, size, lengths, lengths_of_zeros in (
+        (INTENSITY, 20_000, (20_189, 80, 0), (79,)),
+        (TOP, 400, (490, 0), (79,)),
+        (QUALITY, 100, (190,), (190, 80, 0)),
+    ):
+        for length in lengths:
+            usual(34, part, payload_of(part, size), length)
+        for length in lengths_of_zeros:
+            usual(34, part, bytes(size), length)
+
+
+# From a call that breaks every rule to one that breaks the last
+def order():
+    nothing = WriterHeader((0,) * 12, eight(""), 65_535, 0)
+    attempt(31, 4, nothing, (4,) * 8, b"\xFF", 79)
+    attempt(32, TOP, nothing, (4,) * 8, b"\xFF", 79)
+    usual(33, TOP, b"\xFF", 79)
+    usual(34, TOP, bytes(400), 79)
+
+
+if __name__ == "__main__":
+    parts()
+    row_31()
+    row_32()
+    row_33()
+    row_34()
+    order()
+    if sys.argv[1:] == ["--stream"]:
+        sys.stdout.buffer.write(b"".join(CALLS))
+    else:
+        print("\n".join(LINES))
