@@ -35,7 +35,7 @@ def named():
     return {name for name in names if len(name) > 2 or name == "FD"}
 
 
-# (crate, name) where the page has a crate before its names, as in "`step`: `opening::at_first`, `opened_text`"
+# (crate, name) where the page has a crate before its names, as in "`receiver_step`: `opening::at_first`, `opened_text`"
 def placed():
     for row in PAGE.splitlines():
         for crate, names in re.findall(r"`(\w+)`: ([^;|]*)", row):

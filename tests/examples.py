@@ -39,6 +39,7 @@ def add(root):
     for (name, listed), code in zip(CRATES.items(), examples):
         write(root / "crates" / name / "src" / "main.rt", code if listed is None else code + "\nfn main() {}\n")
         lines.append(f"{name}: terminal {listed}" if listed else re.search(rf"`({name}: [^`]*)`", PAGE)[1])
+    assert f"`{lines[1]}`" in README, f"README has another line for {lines[1]}"
     for path, text in re.findall(r"## `(\S+)`\n\n```\n(.*?)```", PAGE, re.S):
         write(root / path, text)
     with (root / "crates.txt").open("a", encoding="utf-8") as file:
@@ -52,7 +53,7 @@ def main():
         add(copy)
         run = subprocess.run(["rt", "check", *CRATES], cwd=copy, capture_output=True, text=True)
         said = [line for line in run.stdout.splitlines() if re.match(rf"rt: ({'|'.join(CRATES)}|ok|FAILED)", line)]
-        print("\n".join(said))
+        print("\n".join(said if run.returncode == 0 else (run.stdout + run.stderr).splitlines()[-40:]))
         sys.exit(run.returncode)
 
 

@@ -2,16 +2,16 @@
 
     python3 tests/layers.py [--unused]
 
-A crate's name tells its layer: `general_laws` 0, `text..` 1, `receiver_..` and `writer..` 2, `service_..` 3; above
+A crate's name tells its layer: `general_laws` below 1, `text..` 1, `receiver_..` and `writer..` 2, `service_..` 3; above
 them stand `terminal` and the programs, `listen`, `decode`, `resend` and `try_..`. Of another crate, in the same
 layer too, sources, specs/ and proofs/ may cite
 
     Rattle.CRATE.specs..                         its definitions
     Rattle.CRATE.proofs.Laws..                   its laws; of a crate `.._laws` any module of proofs/
-    Rattle.CRATE.proofs.MODULE.FUNCTION.Reads    the contract of a function of its src/; `.Statement` as well
+    Rattle.CRATE.proofs.MODULE.FUNCTION.Reads    the contract of a public function; `.Statement` as well
     CRATE::MODULE::ITEM                          in sources: a public function, struct, enum or const
 
-A crate cites none of a layer above its own, and no program. crates.txt lists each folder of crates/, and for each
+A crate cites none of a layer above its own, and no program; definitions cite no proof. crates.txt lists each folder of crates/, and for each
 crate those that it cites; it has no cycle and goes up by layers. The kit's libraries are of no layer.
 With --unused also: what a crate lists and does not cite, which may be right, since it lists as well who declares a
 type that it merely reaches; and names of a proofs/Laws.antt that no other crate cites.
@@ -28,7 +28,7 @@ ROOT = Path(__file__).resolve().parent.parent
 KIT = {"io", "libc", "os", "bytes", "check", "std"}
 LAYERS = [r"general_laws", r"text(_\w+)?", r"receiver_\w+|writer(_\w+)?", r"service_\w+", r"terminal",
           r"listen|decode|resend|try_\w+"]
-TITLES = ["layer 0", "layer 1", "layer 2", "layer 3", "above layer 3", "a program"]
+TITLES = ["below layer 1", "layer 1", "layer 2", "layer 3", "above layer 3", "a program"]
 TERMINAL, PROGRAM = 4, 5
 
 # Quoted texts and comments; in antt `--` may stand inside a name
@@ -45,7 +45,9 @@ Citation = namedtuple("Citation", "crate place cited path allowed")
 
 
 def layer_of(crate):
-    """The number of its layer, None if its name has none."""
+    """The number of its layer, None if its name has none. A crate with src/main.rt is a program, whatever its name."""
+    if (ROOT / "crates" / crate / "src" / "main.rt").exists():
+        return PROGRAM
     return next((layer for layer, names in enumerate(LAYERS) if re.fullmatch(names, crate)), None)
 
 
@@ -90,8 +92,9 @@ def sources(crate):
 
 @cache
 def functions(crate):
-    """The paths of a crate's functions, a method's behind its type."""
-    return {(*module, *of, name) for module, code in sources(crate) for name in re.findall(r"\bfn\s+(\w+)", code)
+    """The paths of a crate's public functions, a method's behind its type."""
+    return {(*module, *of, name) for module, code in sources(crate)
+            for name in re.findall(r"\bpub\s+(?:\w+\s+)*fn\s+(\w+)", code)
             for of in [(), *((kind,) for kind in re.findall(r"\bimpl\s+(\w+)", code))]}
 
 
@@ -108,7 +111,8 @@ def items(crate):
 def is_for_others(crate, path):
     if path[:1] == ["proofs"] and len(path) > 1:
         contracts = [tuple(path[1:i]) for i, name in enumerate(path) if name in ("Reads", "Statement")]
-        return path[1] == "Laws" or crate.endswith("_laws") or any(f in functions(crate) for f in contracts)
+        law = path[1] == "Laws" and len(path) <= 3  # a name of the list, no module that it passes on
+        return law or crate.endswith("_laws") or any(f in functions(crate) for f in contracts)
     return path[:1] == ["specs"]
 
 
@@ -162,6 +166,12 @@ def citations():
 def not_for_others():
     return [f"{c.place}: {c.path}: neither a definition, a law, a contract nor a public item"
             for c in citations() if not c.allowed and c.cited in folders()]
+
+
+def proofs_in_specs():
+    """Definitions that rest on a proof of their own crate, and so would pass it on."""
+    return [f"{path.relative_to(ROOT)}: cites a proof" for path in sorted(ROOT.glob("crates/*/specs/**/*.antt"))
+            if "·proofs.proofs." in code_of(path)]
 
 
 def of_layers(crates):
@@ -228,7 +238,7 @@ def unused(crates):
 
 def main():
     crates = dict(listed())
-    wrong = [*of_list(crates), *of_layers(crates), *not_for_others()]
+    wrong = [*of_list(crates), *of_layers(crates), *proofs_in_specs(), *not_for_others()]
     wrong += unused(crates) if "--unused" in sys.argv[1:] else []
     if wrong:
         print("\n".join(wrong))

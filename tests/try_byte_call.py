@@ -25,7 +25,7 @@ QUALITY_DATA = data(QUALITY, 1, QUALITY_PAYLOAD)
 assert [len(part) for part in (NO_ECHO, WITH_TOPS, WITH_QUALITY)] == [80, 491, 191]
 
 
-# "any one byte altered"
+# Any one byte altered
 def altered(made, place, b):
     assert made[place] != b
     return made[:place] + bytes([b]) + made[place + 1:]

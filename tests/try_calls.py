@@ -39,7 +39,7 @@ def record(data, *answers):
     RECORDS.append((bytes(data), answers))
 
 
-# "any one byte altered"
+# Any one byte altered
 def altered(data, place, b):
     assert data[place] != b
     return data[:place] + bytes([b]) + data[place + 1:]
@@ -101,7 +101,7 @@ def after(receiver, answer, data):
         line("dropped", *contents(receiver))
 
 
-# In two slices, "looping each slice until it is used up"; the answers but 0
+# In two slices, each given until it is used up; the answers but 0
 def cut_run(receiver, data, k):
     answers = []
     for start, stop in ((0, 40 + k), (40 + k, len(data))):

@@ -187,7 +187,7 @@ def clocks():
 
 # ---- Stored parts
 
-HEADING = WriterHeader((1, 9, 9, 9, 0, 6, 0, 7, 1, 2, 1, 0), (0xA0, 0xA7, 0xB3, *(0,) * 5), 9983, 0xCC)
+WRITER_HEADER = WriterHeader((1, 9, 9, 9, 0, 6, 0, 7, 1, 2, 1, 0), (0xA0, 0xA7, 0xB3, *(0,) * 5), 9983, 0xCC)
 MODES = (2, 1, 3, *(0,) * 5)
 
 
@@ -197,7 +197,7 @@ def made(part, echoes=True):
     payload = bytes(size)
     if echoes:
         payload = FIRST if part == INTENSITY else bytes(ALLOWED[part][i % len(ALLOWED[part])] for i in range(size))
-    return texts.written_part(part, HEADING, MODES, payload)
+    return texts.written_part(part, WRITER_HEADER, MODES, payload)
 
 
 def text(data, k, wanted):

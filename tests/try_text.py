@@ -272,7 +272,7 @@ def radars():
 
 # What 01's start and end text give, and then other fields in their place
 SAMPLE = {"time": "199906071210", "radars": "A5", "clock": 9983, "picture": 0xCC, "modes": "01"}
-# Headings and modes that keep every rule
+# Headers and modes that keep every rule
 GOOD_INPUT = (
     *({}, {"clock": 0}, {"clock": 16383}, {"picture": 0xC0}, {"picture": 0xF1}, {"time": "200002290000"}),
     *({"radars": "A3 A5", "modes": "03 01"}, {"radars": FULL, "modes": "01 02 03 01 02 03 01 02"}),

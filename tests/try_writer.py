@@ -58,7 +58,7 @@ def eight(text):
     return tuple(bytes.fromhex(text).ljust(8, b"\0"))
 
 
-HEADINGS = {
+WRITER_HEADERS = {
     INTENSITY: WriterHeader(digits("199906071210"), eight("A5"), 9983, 0xCC),
     TOP: WriterHeader(digits("200002292359"), eight("A0 A7 B3"), 16_383, 0xC0),
     QUALITY: WriterHeader(digits("000001010000"), eight("A5 A7 AF B0 B1 B3 B5 B6"), 0, 0xF1),
@@ -123,7 +123,7 @@ def attempt(wanted, part, header, modes, payload, length):
 # The same with the header and modes of a part
 def usual(wanted, part, payload, length):
     model = part if part in texts.PARTS else QUALITY
-    return attempt(wanted, part, HEADINGS[model], MODES[model], payload, length)
+    return attempt(wanted, part, WRITER_HEADERS[model], MODES[model], payload, length)
 
 
 # ---- Parts, read back
@@ -155,7 +155,7 @@ def read_back(data, header, modes, payload, mode, noecho, answers):
 def through(part, echoes, size, length, wanted, mode, answers):
     payload = payload_of(part, size) if echoes else bytes(size)
     data = usual(wanted, part, payload, length)
-    read_back(data, HEADINGS[part], MODES[part], payload, mode, wanted == 80, answers)
+    read_back(data, WRITER_HEADERS[part], MODES[part], payload, mode, wanted == 80, answers)
 
 
 def parts():

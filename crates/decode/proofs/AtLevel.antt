@@ -13,8 +13,8 @@ use Rattle.text.specs.DataBlock.{oddLevel, evenLevel, isIntensityByte}
 use Rattle.general_laws.proofs.Tests.{by-test, and-split, every-at}
 use Rattle.service_levels.specs.Meshes.{ServiceAnswer, value, refused, levelOf, countTo, meshes, isGrid, hasNoLevel15, isLevel, meshesFrom}
 use Rattle.service_levels.specs.Returned.{answerOf}
-use Rattle.service_levels.specs.declared.result.LevelResult.{LevelResult}
-use Rattle.service_levels.specs.declared.result.LevelResult.the-variants.{Value, Refused}
+use Rattle.service_levels.specs.declared.result.MeshResult.{MeshResult}
+use Rattle.service_levels.specs.declared.result.MeshResult.the-variants.{Value, Refused}
 use Rattle.decode.specs.Count.{countAt, meshesAt, lessOf}
 
 -- a level is at or above another if it is that one, or at or above the next
@@ -104,7 +104,7 @@ module _ (grid : List ℕ) (level : ℕ) where
       let less : n - m ≡ countAt grid level meshes = omega (arith, here .0, above .0, split grid level meshes) in
       ap value less ∙ sym (here .1)
 
-  pub at-less : (from above : LevelResult) → level < 14 → answerOf from ≡ meshesFrom grid level → answerOf above ≡ meshesFrom grid (level + 1)
+  pub at-less : (from above : MeshResult) → level < 14 → answerOf from ≡ meshesFrom grid level → answerOf above ≡ meshesFrom grid (level + 1)
       → answerOf (lessOf from above) ≡ meshesAt grid level
   unfolding answerOf
   at-less (Value n) (Value m) l h k = both n m h k

@@ -1,3 +1,3 @@
 -- The proofs of the functions. Assumes nothing.
-pub mod Laws
+pub mod Counting
 pub mod AtLevel

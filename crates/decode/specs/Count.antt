@@ -4,8 +4,8 @@ use mathlib.Core.Bool.{cond, not}
 use mathlib.Core.List.{List, [], _∷_}
 use lib.Dec.{eqb}
 use Rattle.service_levels.specs.Meshes.{ServiceAnswer, value, refused, levelOf, meshes, isGrid, hasNoLevel15, isLevel}
-use Rattle.service_levels.specs.declared.result.LevelResult.{LevelResult}
-use Rattle.service_levels.specs.declared.result.LevelResult.the-variants.{Value, Refused}
+use Rattle.service_levels.specs.declared.result.MeshResult.{MeshResult}
+use Rattle.service_levels.specs.declared.result.MeshResult.the-variants.{Value, Refused}
 
 -- How many bytes equal a value; in echo top and quality each byte is a mesh. Notice 49, 4(1)(1-2)(d)(ウ), 4(2)(d)(ウ)
 unfoldable pub countOf : List ℕ → ℕ → ℕ
@@ -25,7 +25,7 @@ meshesAt grid level =
     (cond (not (isLevel level)) (refused 41) (value (countAt grid level meshes))))
 
 -- One count less another, or the refusal of either
-abbrev pub lessOf : LevelResult → LevelResult → LevelResult
+abbrev pub lessOf : MeshResult → MeshResult → MeshResult
 lessOf (Value n) (Value m) = Value (n - m)
 lessOf (Value n) (Refused row) = Refused row
 lessOf (Refused row) second = Refused row

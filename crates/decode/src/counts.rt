@@ -1,6 +1,6 @@
 // Counts of meshes: those at one level, or of one value.
 use service_levels::meshes::meshes_from;
-use service_levels::result::LevelResult;
+use service_levels::result::MeshResult;
 ghost use mathlib.Core.Path.{_≡_};
 ghost use Rattle.service_levels.specs.Returned.{answerOf};
 ghost use Rattle.decode.specs.Count.{countOf, lessOf, meshesAt};
@@ -20,21 +20,21 @@ pub fn bytes_at(bytes: &[u8], value: u8) -> usize
 }
 
 // The first count less the second, or the refusal of either
-fn less(first: LevelResult, second: LevelResult) -> LevelResult
+fn less(first: MeshResult, second: MeshResult) -> MeshResult
     ensures { λ r. ⌜ r ≡ lessOf first second ⌝ }
 {
     match first {
-        LevelResult::Value(n) => match second {
-            LevelResult::Value(m) => LevelResult::Value(if m <= n { n - m } else { 0 }),
-            LevelResult::Refused(row) => LevelResult::Refused(row),
+        MeshResult::Value(n) => match second {
+            MeshResult::Value(m) => MeshResult::Value(if m <= n { n - m } else { 0 }),
+            MeshResult::Refused(row) => MeshResult::Refused(row),
         },
-        LevelResult::Refused(row) => LevelResult::Refused(row),
+        MeshResult::Refused(row) => MeshResult::Refused(row),
     }
 }
 
 // How many of the 40,000 meshes are at a level, 0 to 14: those at or above it, less those at or above
 // the next. Refusals are those of the service. Notice 49, 5(3)(3-1)
-pub fn meshes_at(grid: &[u8], level: u8) -> LevelResult
+pub fn meshes_at(grid: &[u8], level: u8) -> MeshResult
     ensures { λ r. ⌜ answerOf r ≡ meshesAt (now (grid .entry)) level ⌝ }
 {
     if level >= 14 {

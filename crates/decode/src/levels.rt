@@ -6,7 +6,7 @@ use crate::line::put;
 use crate::line::put_entry;
 use crate::line::put_labelled;
 use crate::line::put_number;
-use service_levels::result::LevelResult;
+use service_levels::result::MeshResult;
 
 // What each level of intensity stands for. Notice 49, 5(3)(3-1)
 const RAIN: [u8; 300] = *b"\
@@ -63,8 +63,8 @@ fn refused_line(out: &mut Buffer, used: usize, level: u8, row: u8) -> usize {
 fn intensity_line(out: &mut Buffer, used: usize, grid: &[u8], level: u8) -> usize {
     let answerOf = meshes_at(grid, level);
     match answerOf {
-        LevelResult::Value(n) => level_line(out, used, level, n as usize, &RAIN),
-        LevelResult::Refused(row) => refused_line(out, used, level, row),
+        MeshResult::Value(n) => level_line(out, used, level, n as usize, &RAIN),
+        MeshResult::Refused(row) => refused_line(out, used, level, row),
     }
 }
 

@@ -53,11 +53,12 @@ fn more(total: u64, count: usize) -> u64 {
     u64::MAX
 }
 
-// At answer 3 no part is open any more. Which it was, the state before that call says: the part's
-// start text had an answer, at which an earlier call stopped
-fn open_part(before: State) -> u8 {
-    let f = before.frame;
-    f.part
+// The part that complete tells; 0 at any other answer
+fn complete_part(answer: Answer) -> u8 {
+    match answer {
+        Answer::Complete(part) => part,
+        _ => 0,
+    }
 }
 
 // Counts the answer at the last of `taken` bytes more, writes the block of a part that is complete,
@@ -66,12 +67,12 @@ fn report(
     answer: Answer,
     total: u64,
     taken: usize,
-    part: u8,
     state: State,
     grid: &[u8],
     counts: &mut [u64],
 ) -> bool {
     let number = number_of(answer);
+    let part = complete_part(answer);
     let count = totals::counted(counts, number);
     part::block(number, count, more(total, taken), part, state, grid)
 }
@@ -82,7 +83,6 @@ fn feed(state: State, total: u64, grid: &mut [u8], bytes: &[u8], counts: &mut [u
     let mut s = state;
     let mut at = 0;
     while at < bytes.len() {
-        let part = open_part(s);
         let result = slice_call(s, grid, &bytes[at..]);
         let taken = result.count;
         if taken == 0 {
@@ -97,7 +97,7 @@ fn feed(state: State, total: u64, grid: &mut [u8], bytes: &[u8], counts: &mut [u
         let next = result.state;
         s = next;
         let answer = result.answer;
-        if !report(answer, total, at, part, s, grid, counts) {
+        if !report(answer, total, at, s, grid, counts) {
             return FeedResult {
                 state: s,
                 total,

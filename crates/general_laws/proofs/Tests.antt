@@ -1,9 +1,10 @@
 -- Tests turned into facts, and facts into tests. Assumes nothing.
 use mathlib.Core.Path.{_≡_, refl, sym, ap, _∙_}
+use mir.Val.{boolByte}
 use mathlib.Core.Logic.{_⊎_, inl, inr}
 use mathlib.Core.Bool.{Bool, true, false, cond, not, _&&_, _||_, and-true, and-assoc, or-false, or-assoc, true≢false}
 use mathlib.Core.List.{List, [], _∷_}
-use Prim.Native.Nat.{ℕ, zero, suc, _<_}
+use Prim.Native.Nat.{ℕ, zero, suc, _<_, _-_}
 use native.Mathlib.Omega.{arith}
 use lib.Dec.{eqb, leb, ltb}
 use lib.ListN.{length, getD}
@@ -115,3 +116,12 @@ pub either-in : (a : Bool) (b : ℕ) (xs : List ℕ) → either a b xs ≡ (a ||
 unfolding isIn
 either-in a b [] = sym (or-false a)
 either-in a b (x ∷ xs) = either-in (a || eqb b x) b xs ∙ or-assoc a (eqb b x) (isIn b xs)
+
+-- a test as a number, which is at most 1
+pub bool-byte : (t : Bool) → boolByte t ≡ cond t 1 0
+bool-byte true = refl
+bool-byte false = refl
+
+pub bool-byte-less : (t : Bool) → boolByte t ≡ 1 - cond t 0 1
+bool-byte-less true = refl
+bool-byte-less false = refl

@@ -1,19 +1,22 @@
 -- What every decision about a byte has: an answer that is 0 exactly where it is quiet, no refusal, and the byte among the
 -- bytes seen and in their count. Assumes nothing.
-use mathlib.Core.Path.{_≡_, refl, ap}
-use mathlib.Core.Bool.{Bool, false, cond, not}
+use mathlib.Core.Path.{_≡_, refl, ap, sym}
+use Rattle.receiver_state.specs.declared.state.Frame.{Frame}
+use borrow.Author.Tests.{ltb-true, ne-eqb}
+use native.Mathlib.Omega.{arith}
+use mathlib.Core.Bool.{Bool, false, cond, not, true, _||_}
 use mathlib.Core.List.{List}
 use Prim.Native.Nat.{ℕ, _+_, _<_}
 use lib.Dec.{eqb, ltb}
 use lib.ListN.{length}
 use Rattle.text.specs.Text.{EOR, TPAD}
 use Rattle.text.specs.Pictures.{isPictureCode}
-use Rattle.text.specs.Kinds.{isStartKind, isEndKind, blockLength}
+use Rattle.text.specs.Kinds.{isStartKind, isEndKind, blockLength, isKind, kindOf}
 use Rattle.text.specs.Part.{zeros, gridLength}
 use Rattle.receiver_spec.specs.Seen.{endsOpening, dueByte}
 use Rattle.receiver_spec.specs.Receiver.{step, modeIsHighest}
-use Rattle.receiver_spec.specs.Calls.{answered}
-use Rattle.general_laws.proofs.Tests.{by-if}
+use Rattle.receiver_spec.specs.Calls.{answered, partDropped}
+use Rattle.general_laws.proofs.Tests.{by-if, never}
 use Rattle.receiver_bytes_seen.specs.AsNumber.{seenOf, pushSeen, pushCount}
 use Rattle.receiver_decisions.specs.Decisions.{goesOn, begins, drops, quietly, meaning}
 use Rattle.receiver_rest_of_text.specs.RestOfText.{enteredHere, blockDecided, eorDecided, checkDecided, begunPart, endedPart, takenText, lastDecided, textDecided}
@@ -30,6 +33,23 @@ use Rattle.receiver_byte_call.specs.Returned.{replyOf, isQuiet}
 either : {A : Type 0} (P : A → Type 0) (c : Bool) {x y : A} → P x → P y → P (cond c x y)
 either P c p q = by-if P c (λ _. p) (λ _. q)
 
+-- a number above 3 is a row that drops; the rows of a kind are such
+dropped-is : (part n : ℕ) → ltb 3 n ≡ true → partDropped n ≡ answered part n
+unfolding answered
+dropped-is part n e =
+    let l = ltb-true 3 n e in
+    rw (ne-eqb n 0 (λ z. omega (arith, l)), ne-eqb n 1 (λ z. omega (arith, l)), ne-eqb n 2 (λ z. omega (arith, l)), ne-eqb n 3 (λ z. omega (arith, l)))
+
+row-above : (f : Frame) (picture b : ℕ) → eqb (kindRow f picture b) 0 ≡ false → ltb 3 (kindRow f picture b) ≡ true
+unfolding kindRow
+row-above f picture b =
+    by-if above (not (isKind b)) (λ _ _. refl)
+    (λ _. by-if above (eqb (f .part) 0 || not (eqb b (kindOf (f .part) (f .due)))) (λ _ _. refl)
+    (λ _. by-if above (eqb (f .picture) picture) (λ _ z. never z refl) (λ _ _. refl)))
+  where
+    above : ℕ → Type 0
+    above n = eqb n 0 ≡ false → ltb 3 n ≡ true
+
 module _ (s : State) (b : ℕ) where
   abbrev t : State
   t = pushedState s b
@@ -37,57 +57,58 @@ module _ (s : State) (b : ℕ) where
   abbrev pub Facts : Decision → Type 0
   Facts d =
       (isQuiet (d .answer) ≡ eqb (numberOf (d .answer)) 0)
-      × (replyOf (d .answer) ≡ answered (numberOf (d .answer)))
+      × (replyOf (d .answer) ≡ answered (s .frame .part) (numberOf (d .answer)))
       × (d .next .seen ≡ pushSeen (s .seen) b)
       × (d .next .frame .count ≡ pushCount (s .frame .count))
 
-  -- a drop; its number is not 0
-  lost : (n : ℕ) → eqb n 0 ≡ false → Facts (drops t n)
-  unfolding drops begins numberOf isQuiet replyOf pushedState
-  lost n e = (rw e, refl, refl, refl)
+  -- a drop; its number is none of 0 to 3
+  lost : (n : ℕ) → ltb 3 n ≡ true → Facts (drops t n)
+  unfolding drops begins numberOf isQuiet replyOf answered pushedState
+  lost n e = (sym (ne-eqb n 0 (λ z. omega (arith, ltb-true 3 n e))), dropped-is (s .frame .part) n e, refl, refl)
 
   opened-facts : Facts (openedText t)
-  unfolding openedText goesOn begins numberOf isQuiet replyOf pushedState
+  unfolding openedText goesOn begins numberOf isQuiet replyOf answered pushedState
   opened-facts = either Facts (eqb (s .frame .place) 0) (refl, refl, refl, refl) (refl, refl, refl, refl)
 
   gap-facts : Facts (gapDecided t (dueByte (seenOf (s .seen) (s .frame .count))) b)
-  unfolding gapDecided goesOn numberOf isQuiet replyOf pushedState
+  unfolding gapDecided goesOn numberOf isQuiet replyOf answered pushedState
   gap-facts =
       either Facts (eqb (s .frame .part) 0) (refl, refl, refl, refl)
       (either Facts (eqb b (dueByte (seenOf (s .seen) (s .frame .count)))) (refl, refl, refl, refl) (lost 12 refl))
 
   picture-facts : Facts (pictureDecided t b)
-  unfolding pictureDecided goesOn onward numberOf isQuiet replyOf pushedState
+  unfolding pictureDecided goesOn onward numberOf isQuiet replyOf answered pushedState
   picture-facts = either Facts (isPictureCode b) (refl, refl, refl, refl) (lost 13 refl)
 
   start-facts : Facts (startDecided t b)
-  unfolding startDecided begins numberOf isQuiet replyOf pushedState
+  unfolding startDecided begins numberOf isQuiet replyOf answered pushedState
   start-facts = either Facts (eqb (s .frame .part) 0) (refl, refl, refl, refl) (refl, refl, refl, refl)
 
   on-facts : Facts (quietly t (onward (t .frame) 3 b (t .frame .picture) b))
-  unfolding goesOn onward numberOf isQuiet replyOf pushedState
+  unfolding goesOn onward numberOf isQuiet replyOf answered pushedState
   on-facts = (refl, refl, refl, refl)
 
   kind-facts : Facts (kindDecided t b)
   unfolding kindDecided pushedState
   kind-facts =
       either Facts (isStartKind b) start-facts
-      (by-if Facts (eqb (kindRow (t .frame) (t .header .picture) b) 0) (λ _. on-facts) (λ e. lost (kindRow (t .frame) (t .header .picture) b) e))
+      (by-if Facts (eqb (kindRow (t .frame) (t .header .picture) b) 0) (λ _. on-facts)
+      (λ e. lost (kindRow (t .frame) (t .header .picture) b) (row-above (t .frame) (t .header .picture) b e)))
 
   block-facts : Facts (blockDecided t b)
-  unfolding blockDecided goesOn numberOf isQuiet replyOf pushedState
+  unfolding blockDecided goesOn numberOf isQuiet replyOf answered pushedState
   block-facts = either Facts (enteredHere t b .kept) (refl, refl, refl, refl) (lost 18 refl)
 
   eor-facts : Facts (eorDecided t b)
-  unfolding eorDecided goesOn numberOf isQuiet replyOf pushedState
+  unfolding eorDecided goesOn numberOf isQuiet replyOf answered pushedState
   eor-facts = either Facts (eqb b EOR) (refl, refl, refl, refl) (lost 19 refl)
 
   check-facts : Facts (checkDecided t b)
-  unfolding checkDecided goesOn numberOf isQuiet replyOf pushedState
+  unfolding checkDecided goesOn numberOf isQuiet replyOf answered pushedState
   check-facts = either Facts (eqb b (s .frame .check)) (refl, refl, refl, refl) (lost 20 refl)
 
   last-facts : Facts (lastDecided t b)
-  unfolding lastDecided begunPart endedPart takenText goesOn numberOf isQuiet replyOf pushedState
+  unfolding lastDecided begunPart endedPart takenText goesOn numberOf isQuiet replyOf answered pushedState
   last-facts =
       either Facts (not (eqb b TPAD)) (lost 21 refl)
       (either Facts (isStartKind (s .frame .kind)) (refl, refl, refl, refl)

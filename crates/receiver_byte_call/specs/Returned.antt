@@ -2,20 +2,20 @@
 use Prim.Native.Nat.{ℕ}
 use mathlib.Core.Bool.{Bool, true, false}
 use mathlib.Core.List.{List}
-use Rattle.receiver_spec.specs.Calls.{Reply, answered, refused, CallOutcome}
+use Rattle.receiver_spec.specs.Calls.{Reply, quiet, partBegun, textTaken, partComplete, partDropped, refused, CallOutcome}
 use Rattle.receiver_state.specs.Meaning.{stateOf}
 use Rattle.receiver_state.specs.declared.state.State.{State}
 use Rattle.receiver_state.specs.declared.answer.Answer.{Answer}
 use Rattle.receiver_state.specs.declared.answer.Answer.the-variants.{Quiet, Begun, Taken, Complete, Dropped, Refused}
 use Rattle.receiver_byte_call.specs.declared.calls.CallResult.{CallResult}
 
--- 01's numbers; a refusal is told apart from an answer
+-- each case of the code is one of the definition's, and no two are the same
 unfoldable pub replyOf : Answer → Reply
-replyOf Quiet = answered 0
-replyOf Begun = answered 1
-replyOf Taken = answered 2
-replyOf Complete = answered 3
-replyOf (Dropped n) = answered n
+replyOf Quiet = quiet
+replyOf Begun = partBegun
+replyOf Taken = textTaken
+replyOf (Complete part) = partComplete part
+replyOf (Dropped n) = partDropped n
 replyOf (Refused n) = refused n
 
 -- a call's result, with the grid at its exit
@@ -31,6 +31,6 @@ unfoldable pub isQuiet : Answer → Bool
 isQuiet Quiet = true
 isQuiet Begun = false
 isQuiet Taken = false
-isQuiet Complete = false
+isQuiet (Complete part) = false
 isQuiet (Dropped n) = false
 isQuiet (Refused n) = false

@@ -2,8 +2,8 @@
 //
 // From a contract to demand 3: `returned` reads a call's result and grid as `receiver_spec` does, and each
 // contract says that they are `byteCall` or `sliceCall` of the state and grid lent. Those two are
-// what `receiver_spec`'s lists of calls are made of, so `demand-3` (receiver_spec, proofs/Theorem) is about every
-// list of these calls from `fresh`. The second line of a contract gives the one number that
+// what `receiver_spec`'s lists of calls are made of; `receiver_demand_3` proves that every list of these
+// calls from `fresh` is one of them, so demand 3 holds of it. The second line of a contract gives the one number that
 // `receiver_spec`'s state does not have: how the code holds the bytes seen.
 use crate::payload::advanced_state;
 use crate::payload::is_payload_here;

@@ -2,12 +2,10 @@
 use mathlib.Core.Path.{_≡_, refl, sym, ap, _∙_}
 use mathlib.Core.List.{List, [], _∷_, _++_}
 use Prim.Native.Nat.{ℕ, suc, _+_, _-_, _*_, _%_, _≤_, _<_}
-use native.Mathlib.Numerals.{add-one}
 use native.Mathlib.Omega.{arith}
 use lib.Bits.{bitXor}
 use lib.Dec.{ltb}
 use lib.ListN.{length, getD, take, drop, length-drop, take-append-drop}
-use lib.Seq.{drop-cons}
 use borrow.Author.Tests.{ltb-true, ltb-false}
 use Rattle.text.specs.Text.{xorAll}
 use Rattle.general_laws.proofs.Bits.{xor-assoc}
@@ -67,10 +65,6 @@ unfolding countAfter
 count-append n [] ys = refl
 count-append n (x ∷ xs) ys = count-append (pushCount n) xs ys
 
--- the list from a byte on, whose next byte is at a given place
-pub from-on : (bytes : List ℕ) (i j : ℕ) → i + 1 ≡ j → j ≤ length bytes → drop i bytes ≡ getD bytes i 0 ∷ drop j bytes
-from-on bytes i j e l = drop-cons bytes i 0 (omega arith) ∙ ap (λ k. getD bytes i 0 ∷ drop k bytes) (sym (add-one i) ∙ e)
-
 -- what stands before the last five leaves no trace
 pub last-five : (v : ℕ) (bytes : List ℕ) (k : ℕ) → k ≡ length bytes - 5 → seenAfter v (drop k bytes) ≡ seenAfter v bytes
 last-five v bytes k e =
@@ -93,10 +87,10 @@ least : (n k : ℕ) → k ≤ n → k < 5 → suc k ≤ pushCount n
 unfolding pushCount
 least n k l h = by-test (ltb n 5) (λ t. rw t (omega arith)) (λ t. rw t (omega arith))
 
-pub full : (bytes : List ℕ) (n : ℕ) → n ≡ 5 → countAfter n bytes ≡ 5
+pub count-stays-5 : (bytes : List ℕ) (n : ℕ) → n ≡ 5 → countAfter n bytes ≡ 5
 unfolding countAfter
-full [] n e = e
-full (b ∷ bytes) n e = full bytes (pushCount n) (omega (arith, most n, least n 4 (omega arith) (omega arith)))
+count-stays-5 [] n e = e
+count-stays-5 (b ∷ bytes) n e = count-stays-5 bytes (pushCount n) (omega (arith, most n, least n 4 (omega arith) (omega arith)))
 
 pub count-five : (n : ℕ) (bytes : List ℕ) → 5 ≤ length bytes → countAfter n bytes ≡ 5
 unfolding countAfter
@@ -115,7 +109,7 @@ count-five n (a ∷ b ∷ c ∷ d ∷ e ∷ bytes) l =
     let l3 = least m2 2 (omega (arith, l2)) (omega arith) in
     let l4 = least m3 3 (omega (arith, l3)) (omega arith) in
     let l5 = least m4 4 (omega (arith, l4)) (omega arith) in
-    full bytes (pushCount m4) (omega (arith, l5, most m4))
+    count-stays-5 bytes (pushCount m4) (omega (arith, l5, most m4))
 
 -- one byte more of a stretch in the check byte
 pub check-on : (bytes : List ℕ) (i x : ℕ) → i < length bytes → (x ⊕ xorAll (take i bytes)) ⊕ getD bytes i 0 ≡ x ⊕ xorAll (take (i + 1) bytes)

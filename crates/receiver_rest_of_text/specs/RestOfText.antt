@@ -1,5 +1,5 @@
 -- What a byte of a text whose kind has been read does, in the code's terms. Each definition here is one of `receiver_spec`'s Receiver,
--- row for row; proofs/Same shows that they are the same. State s has the byte among its bytes seen already. Assumes nothing.
+-- row for row; proofs/Laws shows that they are the same (text-same). State s has the byte among its bytes seen already. Assumes nothing.
 use Prim.Native.Nat.{ℕ, _+_}
 use mathlib.Core.Bool.{cond, not}
 use lib.Dec.{eqb, ltb}
@@ -53,7 +53,7 @@ begunPart s =
 
 -- answer 3, complete. Row 22: status 2 is not the highest mode. Notice 49, 4(1)(1-1)(d)(イ)
 unfoldable pub endedPart : State → Decision
-endedPart s = cond (modeIsHighest (s .header) (s .modes)) (goesOn s (between (s .frame) 0 0) Complete Keep) (drops s 22)
+endedPart s = cond (modeIsHighest (s .header) (s .modes)) (goesOn s (between (s .frame) 0 0) (Complete (s .frame .part)) Keep) (drops s 22)
 
 -- answer 2, data text taken. Notice 49, 4(1)(1-1)(a), 4(1)(1-2)(a), 4(2)(a)
 unfoldable pub takenText : State → Decision

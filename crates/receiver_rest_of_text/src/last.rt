@@ -66,7 +66,7 @@ fn begun_part(s: State) -> Decision
     )
 }
 
-// Answer 3, complete: no part open from here; header, modes and grid kept. Row 22: status 2 is not
+// Answer 3, complete, with the part's number: no part open from here; header, modes and grid kept. Row 22: status 2 is not
 // the highest mode. Notice 49, 4(1)(1-1)(d)(イ)
 fn ended_part(s: State) -> Decision
     ensures { λ r. ⌜ r ≡ endedPart s ⌝ }
@@ -75,7 +75,7 @@ fn ended_part(s: State) -> Decision
     let header = s.header;
     let modes = s.modes;
     if mode_is_highest(header, modes) {
-        return goes_on(s, between(f, 0, 0), Answer::Complete, Effect::Keep);
+        return goes_on(s, between(f, 0, 0), Answer::Complete(f.part), Effect::Keep);
     }
     drops(s, 22)
 }

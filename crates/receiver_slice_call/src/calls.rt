@@ -27,7 +27,7 @@ fn is_quiet(a: Answer) -> bool
         Answer::Quiet => true,
         Answer::Begun => false,
         Answer::Taken => false,
-        Answer::Complete => false,
+        Answer::Complete(_) => false,
         Answer::Dropped(_) => false,
         Answer::Refused(_) => false,
     }

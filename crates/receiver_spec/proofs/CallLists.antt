@@ -4,7 +4,7 @@ use mathlib.Core.Path.{_≡_, refl, sym, ap, ap₂, _∙_, subst}
 use mathlib.Core.Logic.{_≢_}
 use mathlib.Core.List.{List, [], _∷_, _++_, append-assoc, append-nil, map}
 use mathlib.Core.Bool.{not}
-use Prim.Native.Nat.{ℕ, zero, suc, _+_, _≤_}
+use Prim.Native.Nat.{ℕ, zero, suc, _+_, _-_, _≤_}
 use native.Mathlib.Omega.{arith}
 use lib.Dec.{eqb}
 use lib.ListN.{length, take}
@@ -13,7 +13,7 @@ use Rattle.text.specs.Part.{gridLength}
 use Rattle.general_laws.proofs.Tests.{by-if}
 use Rattle.receiver_spec.specs.State.{State, fresh, emptyGrid, isPossible}
 use Rattle.receiver_spec.specs.Receiver.{step}
-use Rattle.receiver_spec.specs.Calls.{answered, CallOutcome, refuses, judged, byteCall, feed, sliceCall, Request, byte, slice, Call, onGrid, elsewhere, ask, number, spread, After, start, add, next, after, received, singly, answersOf, stateAfter, gridAfter}
+use Rattle.receiver_spec.specs.Calls.{Reply, quiet, number, answered, CallOutcome, refuses, judged, byteCall, feed, sliceCall, Request, byte, slice, Call, onGrid, elsewhere, ask, spread, After, start, add, next, after, received, singly, answersOf, stateAfter, gridAfter}
 use Rattle.receiver_spec.specs.Demand3.{SliceTaken}
 use Rattle.receiver_spec.proofs.Possible.{Possible, possible-keeps, step-kept, fresh-possible, grid-long}
 
@@ -29,36 +29,86 @@ wrong-grid s g (byte b) n = rw (ne-eqb (length g) gridLength n)
 wrong-grid s g (slice bytes) n = rw (ne-eqb (length g) gridLength n)
 
 pub byte-taken : (s : State) (g : List ℕ) (b : ℕ) → Possible s → length g ≡ gridLength
-    → ask s g (byte b) ≡ record { reply = answered (step s g b .answer); count = 1; state = step s g b .state; grid = step s g b .grid }
+    → ask s g (byte b) ≡ record { reply = answered (s .part) (step s g b .answer); count = 1; state = step s g b .state; grid = step s g b .grid }
 unfolding ask byteCall
 byte-taken s g b p l = not-refused s g _ p l
+
+-- a reply has its answer's number
+pub number-answered : (part n : ℕ) → number (answered part n) ≡ n
+unfolding answered
+number-answered part n =
+    by-if (λ r. number r ≡ n) (eqb n 0) (λ e. sym (eqb-true n 0 e))
+    (λ _. by-if (λ r. number r ≡ n) (eqb n 1) (λ e. sym (eqb-true n 1 e))
+    (λ _. by-if (λ r. number r ≡ n) (eqb n 2) (λ e. sym (eqb-true n 2 e))
+    (λ _. by-if (λ r. number r ≡ n) (eqb n 3) (λ e. sym (eqb-true n 3 e)) (λ _. refl))))
 
 spread-suc : (n a : ℕ) → (n ≡ 0 → a ≡ 0) → spread (suc n) a ≡ 0 ∷ spread n a
 spread-suc zero a h = rw (h refl)
 spread-suc (suc n) a h = refl
 
+quiet-answered : (part : ℕ) → quiet ≡ answered part 0
+unfolding answered
+quiet-answered part = refl
+
+feed-none : (bytes : List ℕ) (s : State) (g : List ℕ) → feed s g bytes .count ≡ 0 → feed s g bytes .reply ≡ quiet
+unfolding feed
+feed-none [] s g e = refl
+feed-none (b ∷ bytes) s g e =
+    by-if (λ (f : CallOutcome). f .count ≡ 0 → f .reply ≡ quiet) (eqb (step s g b .answer) 0) (λ _ h. absurd (omega arith)) (λ _ h. absurd (omega arith)) e
+
+-- the part open before the last byte taken: of the rest, or of this one byte where no more are taken
+last-part : (bytes : List ℕ) (s : State) (g : List ℕ) (b n : ℕ) (r : Reply) → (n ≡ 0 → r ≡ quiet)
+    → r ≡ answered (stateAfter (step s g b .state) (step s g b .grid) (take (n - 1) bytes) .part) (number r)
+    → r ≡ answered (stateAfter s g (take (suc n - 1) (b ∷ bytes)) .part) (number r)
+unfolding stateAfter answered
+last-part bytes s g b zero r h e = rw (h refl)
+last-part bytes s g b (suc n) r h e =
+    let here : suc n - 1 ≡ n = omega arith in
+    let later : suc n ≡ suc (suc n) - 1 = omega arith in
+    subst (λ m. r ≡ answered (stateAfter s g (take m (b ∷ bytes)) .part) (number r)) later
+    (subst (λ m. r ≡ answered (stateAfter (step s g b .state) (step s g b .grid) (take m bytes) .part) (number r)) here e)
+
 feed-taken : (bytes : List ℕ) (s : State) (g : List ℕ) → SliceTaken s g bytes (feed s g bytes)
 unfolding feed answersOf stateAfter gridAfter
-feed-taken [] s g = record { answer = refl; within = omega arith; each = refl; all = λ _. refl; state = refl; grid = refl }
+feed-taken [] s g =
+    record {
+      answer = quiet-answered (s .part);
+      within = omega arith;
+      each = refl;
+      all = λ _. refl;
+      none = λ _. refl;
+      some = λ l. absurd (omega arith);
+      state = refl;
+      grid = refl;
+    }
 feed-taken (b ∷ bytes) s g =
     let o = step s g b in
     let f = feed (o .state) (o .grid) bytes in
     let ih = feed-taken bytes (o .state) (o .grid) in
     by-if (SliceTaken s g (b ∷ bytes)) (eqb (o .answer) 0)
     (λ e. record {
-      answer = ih .answer;
+      answer = last-part bytes s g b (f .count) (f .reply) (feed-none bytes (o .state) (o .grid)) (ih .answer);
       within = omega (arith, ih .within);
-      each = ap₂ (λ x y. x ∷ y) (eqb-true _ _ e) (ih .each) ∙ sym (spread-suc (f .count) (number (f .reply)) (λ z. none bytes (o .state) (o .grid) z));
+      each =
+          ap₂ (λ x y. x ∷ y) (eqb-true _ _ e) (ih .each)
+          ∙ sym (spread-suc (f .count) (number (f .reply)) (λ z. ap number (feed-none bytes (o .state) (o .grid) z)));
       all = λ z. ap suc (ih .all z);
+      none = λ z. absurd (omega arith);
+      some = λ _. omega arith;
       state = ih .state;
       grid = ih .grid;
     })
-    (λ e. record { answer = refl; within = omega arith; each = refl; all = λ z. absurd (eqb-false _ _ e z); state = refl; grid = refl })
-  where
-    none : (bytes : List ℕ) (s : State) (g : List ℕ) → feed s g bytes .count ≡ 0 → number (feed s g bytes .reply) ≡ 0
-    none [] s g e = refl
-    none (b ∷ bytes) s g e =
-        by-if (λ (f : CallOutcome). f .count ≡ 0 → number (f .reply) ≡ 0) (eqb (step s g b .answer) 0) (λ _ h. absurd (omega arith)) (λ _ h. absurd (omega arith)) e
+    (λ e. let n = number-answered (s .part) (o .answer) in
+    record {
+      answer = ap (answered (s .part)) (sym n);
+      within = omega arith;
+      each = ap (λ x. x ∷ []) (sym n);
+      all = λ z. absurd (eqb-false _ _ e (sym n ∙ z));
+      none = λ z. absurd (omega arith);
+      some = λ _. omega arith;
+      state = refl;
+      grid = refl;
+    })
 
 pub slice-taken : (s : State) (g bytes : List ℕ) → Possible s → length g ≡ gridLength → SliceTaken s g bytes (ask s g (slice bytes))
 unfolding ask sliceCall
@@ -73,11 +123,11 @@ slice-count-most s g bytes =
 
 -- ---- possible states and grids stay so
 
-pub record Sound (s : State) (g : List ℕ) : Type 0 where
+pub record PossibleOnGrid (s : State) (g : List ℕ) : Type 0 where
   pub possible : Possible s
   pub long : length g ≡ gridLength
 
-pub steps-sound : (bytes : List ℕ) (s : State) (g : List ℕ) → Sound s g → Sound (stateAfter s g bytes) (gridAfter s g bytes)
+pub steps-sound : (bytes : List ℕ) (s : State) (g : List ℕ) → PossibleOnGrid s g → PossibleOnGrid (stateAfter s g bytes) (gridAfter s g bytes)
 unfolding stateAfter gridAfter
 steps-sound [] s g h = h
 steps-sound (b ∷ bytes) s g h =
@@ -126,11 +176,11 @@ leads-on {a} {b} {c} x y =
       grid = y .grid ∙ ap₂ (λ s g. gridAfter s g (y .bytes)) (x .state) (x .grid) ∙ sym (grid-append (x .bytes) (y .bytes) (a .state) (a .grid));
     }
 
-leads-next : (a : After) (c : Call) → Sound (a .state) (a .grid) → Leads a (next a c)
+leads-next : (a : After) (c : Call) → PossibleOnGrid (a .state) (a .grid) → Leads a (next a c)
 unfolding next answersOf stateAfter gridAfter
 leads-next a (onGrid (byte b)) h =
     let e = byte-taken (a .state) (a .grid) b (h .possible) (h .long) in
-    subst (λ (outcome : CallOutcome). Leads a (add a (byte b) outcome)) (sym e) (record { bytes = b ∷ []; taken = refl; said = refl; state = refl; grid = refl })
+    subst (λ (outcome : CallOutcome). Leads a (add a (byte b) outcome)) (sym e) (record { bytes = b ∷ []; taken = refl; said = ap (λ n. a .said ++ (n ∷ [])) (number-answered (a .state .part) (step (a .state) (a .grid) b .answer)); state = refl; grid = refl })
 leads-next a (onGrid (slice bytes)) h =
     let t = slice-taken (a .state) (a .grid) bytes (h .possible) (h .long) in
     record {
@@ -145,10 +195,10 @@ leads-next a (elsewhere r other n) h =
     subst (λ (outcome : CallOutcome). Leads a (add a r (record { reply = outcome .reply; count = outcome .count; state = a .state; grid = a .grid }))) (sym e)
     (record { bytes = []; taken = refl; said = refl; state = refl; grid = refl })
 
-leads-sound : {a z : After} → Leads a z → Sound (a .state) (a .grid) → Sound (z .state) (z .grid)
+leads-sound : {a z : After} → Leads a z → PossibleOnGrid (a .state) (a .grid) → PossibleOnGrid (z .state) (z .grid)
 leads-sound {a} {z} x h = rw (x .state, x .grid) (steps-sound (x .bytes) (a .state) (a .grid) h)
 
-leads-after : (calls : List Call) (a : After) → Sound (a .state) (a .grid) → Leads a (after a calls)
+leads-after : (calls : List Call) (a : After) → PossibleOnGrid (a .state) (a .grid) → Leads a (after a calls)
 unfolding after
 leads-after [] a h = leads-none a
 leads-after (c ∷ calls) a h =
@@ -157,7 +207,7 @@ leads-after (c ∷ calls) a h =
 
 -- ---- from the fresh state
 
-pub fresh-sound : Sound fresh emptyGrid
+pub fresh-sound : PossibleOnGrid fresh emptyGrid
 fresh-sound = record { possible = fresh-possible; long = grid-long }
 
 pub record Stepped (calls : List Call) : Type 0 where
@@ -175,15 +225,15 @@ calls-stepped calls =
       grid = x .grid ∙ ap (gridAfter fresh emptyGrid) (sym (x .taken));
     }
 
-pub calls-sound : (calls : List Call) → Sound (received calls .state) (received calls .grid)
+pub calls-sound : (calls : List Call) → PossibleOnGrid (received calls .state) (received calls .grid)
 calls-sound calls = let x = calls-stepped calls in rw (x .state, x .grid) (steps-sound (received calls .taken) fresh emptyGrid fresh-sound)
 
 -- given one by one, all bytes are taken
-next-byte : (a : After) (b : ℕ) → Sound (a .state) (a .grid) → next a (onGrid (byte b)) .taken ≡ a .taken ++ (b ∷ [])
+next-byte : (a : After) (b : ℕ) → PossibleOnGrid (a .state) (a .grid) → next a (onGrid (byte b)) .taken ≡ a .taken ++ (b ∷ [])
 unfolding next
 next-byte a b h = ap (λ (outcome : CallOutcome). add a (byte b) outcome .taken) (byte-taken (a .state) (a .grid) b (h .possible) (h .long))
 
-bytes-taken : (bytes : List ℕ) (a : After) → Sound (a .state) (a .grid) → after a (map (λ b. onGrid (byte b)) bytes) .taken ≡ a .taken ++ bytes
+bytes-taken : (bytes : List ℕ) (a : After) → PossibleOnGrid (a .state) (a .grid) → after a (map (λ b. onGrid (byte b)) bytes) .taken ≡ a .taken ++ bytes
 unfolding after
 bytes-taken [] a h = sym (append-nil _)
 bytes-taken (b ∷ bytes) a h =

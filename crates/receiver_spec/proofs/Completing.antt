@@ -2,16 +2,16 @@
 use mathlib.Core.Path.{_≡_, refl, sym, ap, _∙_}
 use mathlib.Core.Logic.{_≢_}
 use mathlib.Core.Bool.{true, false}
-use mathlib.Core.List.{List, [], _∷_, _++_}
-use Prim.Native.Nat.{ℕ, suc, _+_}
+use mathlib.Core.List.{List, [], _∷_, _++_, append-assoc}
+use Prim.Native.Nat.{ℕ, suc, _+_, _≤_}
 use native.Mathlib.Omega.{arith}
-use lib.ListN.{length, take}
+use lib.ListN.{length, take, length-append, List·getD-append}
 use borrow.Author.Tests.{eq-eqb, ne-eqb}
-use Rattle.general_laws.specs.Bytes.{same}
+use Rattle.general_laws.specs.Bytes.{_!_, same}
 use Rattle.text.specs.Text.{LPAD, SYN, DLE, STX, FD, EOR, TPAD, controlA, checkByte}
 use Rattle.receiver_spec.specs.Seen.{push, endsOpening, dueByte}
 use Rattle.receiver_spec.specs.Receiver.{_⊕_}
-use Rattle.receiver_spec.proofs.Machine.{Rules, Machine, mk, answering, opens, inGap, atKind, atLast, placed, move, run, AllQuiet, quiet-byte, BlockContents, block, most, text, Open, begun, more}
+use Rattle.receiver_spec.proofs.Machine.{Rules, Machine, mk, answering, opens, inGap, atKind, atLast, placed, move, run, AllQuiet, quiet-byte, BlockContents, block, most, text, Open, begun, more, Whole, whole}
 use Rattle.receiver_spec.proofs.Opening.{only-FD, seenControl, seenOpening, seenKind}
 use Rattle.receiver_spec.proofs.Steps.{RuleLaws, run-append, quiet-run}
 use Rattle.receiver_spec.proofs.WayBack.{checkAt3, kind-not-FD, block-quiet, take-picture, take-last, seenCheck, start-run}
@@ -103,23 +103,29 @@ module _ (R : Rules) (L : RuleLaws R) where
       let q = pictureOf c in
       quiet-byte (take-opening p d c) (quiet-byte (take-picture R L p d q c hq) (quiet-byte (take-due p d q k c hp hk g n refl) (block-quiet R L q p d g l r)))
 
-  -- a due text, up to its last byte
+  -- a due text, up to its last byte: where that leads, and what the last byte does
+  pub due-front : {k : ℕ} {c e : Held} {xs : List ℕ} (w : List ℕ) (p d : ℕ) → p ≢ 0 → isPicture (pictureOf c) ≡ true → k ≡ dueKind p d → isKind k ≡ true → isStart k ≡ false
+      → 3 + length xs ≡ long k → BlockContents R k c 3 xs e
+      → let q = pictureOf c in
+      run R (mk R (TPAD ∷ w) 0 0 0 p d 0 c) (most R (block R q k xs)) ≡ mk R (seenCheck R L q k xs) (suc (suc (long k))) k q p d (checkByte (block R q k xs)) e
+  unfolding run most
+  due-front {k} {c} {e} {xs} w p d hp hq hk g n l r =
+      let q = pictureOf c in
+      let z = checkByte (block R q k xs) in
+      run-append R (mk R (TPAD ∷ w) 0 0 0 p d 0 c) (controlA ++ (FD ∷ [])) (q ∷ k ∷ (xs ++ (EOR ∷ z ∷ [])))
+      ∙ ap (λ t. run R t (q ∷ k ∷ (xs ++ (EOR ∷ z ∷ [])))) (gap-run w p d c hp)
+      ∙ ap (λ o. run R (o .machine) (k ∷ (xs ++ (EOR ∷ z ∷ [])))) (take-picture R L p d q c hq)
+      ∙ ap (λ o. run R (o .machine) (xs ++ (EOR ∷ z ∷ []))) (take-due p d q k c hp hk g n refl)
+      ∙ quiet-run R (block-quiet R L q p d g l r)
+
   pub due-run : {k : ℕ} {c e : Held} {xs : List ℕ} (w : List ℕ) (p d : ℕ) → p ≢ 0 → isPicture (pictureOf c) ≡ true → k ≡ dueKind p d → isKind k ≡ true → isStart k ≡ false
       → 3 + length xs ≡ long k → BlockContents R k c 3 xs e
       → let q = pictureOf c in
       let m = mk R (seenCheck R L q k xs) (suc (suc (long k))) k q p d (checkByte (block R q k xs)) e in
       move R (run R (mk R (TPAD ∷ w) 0 0 0 p d 0 c) (most R (block R q k xs))) TPAD ≡ atLast R m (push (m .seen) TPAD) TPAD
-  unfolding run most
   due-run {k} {c} {e} {xs} w p d hp hq hk g n l r =
       let q = pictureOf c in
-      let z = checkByte (block R q k xs) in
-      ap (λ t. move R t TPAD)
-      (run-append R (mk R (TPAD ∷ w) 0 0 0 p d 0 c) (controlA ++ (FD ∷ [])) (q ∷ k ∷ (xs ++ (EOR ∷ z ∷ [])))
-      ∙ ap (λ t. run R t (q ∷ k ∷ (xs ++ (EOR ∷ z ∷ [])))) (gap-run w p d c hp)
-      ∙ ap (λ o. run R (o .machine) (k ∷ (xs ++ (EOR ∷ z ∷ [])))) (take-picture R L p d q c hq)
-      ∙ ap (λ o. run R (o .machine) (xs ++ (EOR ∷ z ∷ []))) (take-due p d q k c hp hk g n refl)
-      ∙ quiet-run R (block-quiet R L q p d g l r))
-      ∙ take-last R L (seenCheck R L q k xs) k q p d z e (L .long-3 k g)
+      ap (λ t. move R t TPAD) (due-front w p d hp hq hk g n l r) ∙ take-last R L (seenCheck R L q k xs) k q p d (checkByte (block R q k xs)) e (L .long-3 k g)
 
   -- the texts of an open part
   pub open-run : {ys : List ℕ} {p d : ℕ} {c : Held} → Open R ys p d c → (m : Machine R) → (w : List ℕ) × (run R m ys ≡ mk R (TPAD ∷ w) 0 0 0 p d 0 c)
@@ -146,3 +152,24 @@ module _ (R : Rules) (L : RuleLaws R) where
       let (w, before) = open-run o m in
       ap (λ t. move R t TPAD) (run-append R m ys (most R (block R q k xs)) ∙ ap (λ t. run R t (most R (block R q k xs))) before)
       ∙ due-run w p d (open-some o) hq hk g n l r ∙ rw (n, v, z)
+
+  -- the part that is open before a whole part's last byte is that of the kind in its first text, whatever came before
+  first-kind : {ys : List ℕ} {p d : ℕ} {c : Held} → Open R ys p d c → (8 ≤ length ys) × (partOf (ys ! 7) ≡ p)
+  unfolding most
+  first-kind (begun {q} {k} {xs} hq hk l r) = (omega (arith, length-append (controlA ++ (block R q k xs ++ (EOR ∷ checkByte (block R q k xs) ∷ []))) (TPAD ∷ [])), refl)
+  first-kind (more {ys} {k} {xs} {c} o hq hk g n v l r) =
+      let (long, kind) = first-kind o in
+      let t = text R (block R (pictureOf c) k xs) in
+      (omega (arith, long, length-append ys t), ap partOf (List·getD-append ys t 0 7 (omega (arith, long))) ∙ kind)
+
+  pub part-open : {zs : List ℕ} {c : Held} → Whole R zs c → (front : List ℕ) × (zs ≡ front ++ (TPAD ∷ [])) × ((m : Machine R) → run R m front .part ≡ partOf (zs ! 7))
+  part-open (whole {ys} {p} {d} {k} {xs} {c} o hq hk g n v l r z) =
+      let q = pictureOf c in
+      let t = most R (block R q k xs) in
+      let (long, kind) = first-kind o in (
+        ys ++ t,
+        sym (append-assoc ys t (TPAD ∷ [])),
+        λ m. let (w, before) = open-run o m in
+            ap (λ (x : Machine R). x .part) (run-append R m ys t ∙ ap (λ x. run R x t) before ∙ due-front w p d (open-some o) hq hk g n l r)
+            ∙ sym kind ∙ ap partOf (sym (List·getD-append ys (text R (block R q k xs)) 0 7 (omega (arith, long)))),
+      )

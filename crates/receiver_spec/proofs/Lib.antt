@@ -1,4 +1,6 @@
+-- The laws of the receiver's definition: Laws is what other crates may rest on; the others in reading order, and last the theorem.
 pub mod Laws
+-- a machine over any rules, and the theory of framing
 pub mod Machine
 pub mod Opening
 pub mod Steps
@@ -6,12 +8,16 @@ pub mod WayBack
 pub mod Completing
 pub mod History
 pub mod Altered
+-- 01's receiver is such a machine, and what it takes is what 01 calls undamaged
 pub mod Instance
 pub mod BlockRules
 pub mod WholeParts
+-- possible states, and lists of calls
 pub mod Possible
 pub mod CallLists
+-- demand 3
 pub mod Theorem
+-- complete comes at a part's last byte and not before; rows 11 and 15 exactly when; sample traffic
 pub mod NotBefore
 pub mod Rows
 pub mod Samples

@@ -2,34 +2,37 @@
 use mathlib.Core.Path.{_≡_, refl, sym, ap, ap₂, _∙_, subst}
 use mathlib.Core.Logic.{_≢_, _↔_}
 use mathlib.Core.Bool.{true}
-use mathlib.Core.List.{List, [], _∷_, _++_, append-assoc, map}
-use Prim.Native.Nat.{ℕ, suc, _+_, _-_}
+use mathlib.Core.List.{List, [], _∷_, _++_, append-assoc, append-nil, map}
+use Prim.Native.Nat.{ℕ, zero, suc, _+_, _-_, _≤_}
 use native.Mathlib.Omega.{arith}
-use lib.ListN.{length, take, drop, length-append, length-drop, List·getD-eq-default}
+use lib.ListN.{length, getD, take, drop, length-append, length-drop, List·getD-eq-default}
 use lib.Dec.{ltb}
-use lib.Seq.{drop-at, split-at, length-take-le}
+use lib.Seq.{drop-at, split-at, take-suc, length-take-le}
 use borrow.Author.Tests.{ltb-true, ltb-false}
 use Rattle.general_laws.specs.Bytes.{_!_}
 use Rattle.text.specs.Text.{FD, TPAD, textOf}
+use Rattle.text.specs.Kinds.{partOf}
 use Rattle.text.specs.StartBlock.{isStartBlock, headerOf}
-use Rattle.text.specs.Part.{StartText, UndamagedPart, AlteredTo, partHeader, partModes, gridOf}
+use Rattle.text.specs.Part.{startPart, StartText, UndamagedPart, AlteredTo, partHeader, partModes, gridOf}
 use Rattle.text.specs.EndBlock.{noModes}
 use Rattle.general_laws.proofs.Tests.{by-test}
+use Rattle.text_laws.proofs.Parts.{start-byte}
 use Rattle.text_laws.proofs.Blocks.{StartRules, start-rules, split-3}
 use Rattle.receiver_spec.specs.State.{State, fresh, emptyGrid}
 use Rattle.receiver_spec.specs.Receiver.{Step, step}
-use Rattle.receiver_spec.specs.Calls.{byte, Call, onGrid, received, singly, answersOf, stateAfter, gridAfter}
-use Rattle.receiver_spec.specs.Demand3.{EndsUndamaged, WayBack, Demand3}
+use Rattle.receiver_spec.specs.Calls.{Reply, quiet, partBegun, textTaken, partComplete, partDropped, refused, number, answered, CallOutcome, Request, byte, slice, Call, onGrid, elsewhere, ask, After, start, add, next, after, received, singly, answersOf, stateAfter, gridAfter}
+use Rattle.receiver_spec.specs.Demand3.{CallMade, EndsUndamaged, WayBack, Demand3}
 use Rattle.receiver_spec.proofs.Machine.{Machine, Out, move, run, new, block, most, text, Whole, whole}
 use Rattle.receiver_spec.proofs.Steps.{run-append}
 use Rattle.receiver_spec.proofs.WayBack.{way-back}
-use Rattle.receiver_spec.proofs.History.{complete-only, complete-if}
+use Rattle.receiver_spec.proofs.Completing.{part-open}
+use Rattle.receiver_spec.proofs.History.{snoc-inj, complete-only, complete-if}
 use Rattle.receiver_spec.proofs.Altered.{altered-never}
 use Rattle.receiver_spec.proofs.Instance.{Held, held, radar, machine, out, step-is-move, radar-laws}
 use Rattle.text_laws.proofs.KindTable.{start-block-length}
 use Rattle.receiver_spec.proofs.BlockRules.{start-taken}
 use Rattle.receiver_spec.proofs.WholeParts.{text-same, heldOf, whole-undamaged, undamaged-whole}
-use Rattle.receiver_spec.proofs.CallLists.{wrong-grid, byte-taken, slice-taken, answers-append, Stepped, calls-stepped, calls-sound, singly-taken}
+use Rattle.receiver_spec.proofs.CallLists.{wrong-grid, byte-taken, slice-taken, number-answered, answers-append, state-append, Stepped, calls-stepped, calls-sound, singly-taken}
 
 -- ---- steps are moves
 
@@ -238,16 +241,99 @@ module _ (calls : List Call) where
       let none : received calls .said ! i ≡ 0 = List·getD-eq-default (received calls .said) 0 (omega arith) in
       omega arith)
 
+-- ---- each call of a list
+
+made : (calls : List Call) (call : Call) → CallMade (received calls) call
+unfolding next
+made calls (onGrid (byte b)) =
+    let a = received calls in
+    let o = step (a .state) (a .grid) b in
+    let e = byte-taken (a .state) (a .grid) b (calls-sound calls .possible) (calls-sound calls .long) in (
+      e,
+      ap (add a (byte b)) e
+          ∙ ap (λ n. record { state = o .state; grid = o .grid; taken = a .taken ++ (b ∷ []); said = a .said ++ (n ∷ []) }) (number-answered (a .state .part) (o .answer)),
+    )
+made calls (onGrid (slice bytes)) =
+    let a = received calls in
+    (slice-taken (a .state) (a .grid) bytes (calls-sound calls .possible) (calls-sound calls .long), refl)
+made calls (elsewhere r grid other) =
+    let a = received calls in
+    let e = wrong-grid (a .state) grid r other in (
+      e,
+      ap (λ (outcome : CallOutcome). add a r (record { reply = outcome .reply; count = outcome .count; state = a .state; grid = a .grid })) e
+          ∙ (λ i. record { state = a .state; grid = a .grid; taken = append-nil (a .taken) i; said = append-nil (a .said) i }),
+    )
+
+-- ---- the part that complete tells
+
+-- the part that a reply tells
+abbrev partIn : Reply → ℕ
+partIn quiet = 0
+partIn partBegun = 0
+partIn textTaken = 0
+partIn (partComplete p) = p
+partIn (partDropped n) = 0
+partIn (refused n) = 0
+
+tells-is : (q n p : ℕ) → answered q n ≡ partComplete p → p ≡ q
+unfolding answered
+tells-is q n p e =
+    let three : n ≡ 3 = sym (number-answered q n) ∙ ap number e in
+    sym (ap partIn (subst (λ m. answered q m ≡ partComplete p) three e))
+
+-- the part open before the last byte of an undamaged part
+open-before : (bytes : List ℕ) (b : ℕ) (before part : List ℕ) (u : UndamagedPart part) → bytes ++ (b ∷ []) ≡ before ++ part
+    → stateAfter fresh emptyGrid bytes .part ≡ startPart (u .part .start)
+open-before bytes b before part u e =
+    let (front, f, before-last) = part-open radar radar-laws (undamaged-whole u) in
+    let same = snoc-inj bytes (before ++ front) b TPAD (e ∙ ap (λ t. before ++ t) f ∙ sym (append-assoc before front (TPAD ∷ []))) .0 in
+    ap (λ (m : Machine radar). m .part) (machine-after bytes fresh emptyGrid ∙ ap (run radar (new radar)) same ∙ run-append radar (new radar) before front)
+    ∙ before-last (run radar (new radar) before) ∙ ap partOf (sym (start-byte part u 2 (omega arith)))
+
+pub after-last : (calls : List Call) (c : Call) (a : After) → after a (calls ++ (c ∷ [])) ≡ next (after a calls) c
+unfolding after
+after-last [] c a = refl
+after-last (d ∷ calls) c a = after-last calls c (next a d)
+
+complete-tells : (calls : List Call) (r : Request) (p : ℕ) → ask (received calls .state) (received calls .grid) r .reply ≡ partComplete p
+    → (before part : List ℕ) (u : UndamagedPart part) → received (calls ++ (onGrid r ∷ [])) .taken ≡ before ++ part → p ≡ startPart (u .part .start)
+complete-tells calls (byte b) p h before part u e =
+    let a = received calls in
+    let (returned, here) = made calls (onGrid (byte b)) in
+    let taken : a .taken ++ (b ∷ []) ≡ before ++ part = sym (ap (λ (z : After). z .taken) (after-last calls (onGrid (byte b)) start ∙ here)) ∙ e in
+    tells-is (a .state .part) (step (a .state) (a .grid) b .answer) p (sym (ap (λ (o : CallOutcome). o .reply) returned) ∙ h)
+    ∙ ap (λ (s : State). s .part) (calls-stepped calls .state) ∙ open-before (a .taken) b before part u taken
+complete-tells calls (slice bytes) p h before part u e =
+    let a = received calls in
+    let (sliced, here) = made calls (onGrid (slice bytes)) in
+    let outcome = ask (a .state) (a .grid) (slice bytes) in
+    let some : 1 ≤ outcome .count = at-least-one (outcome .count) (λ z. omega (arith, ap number (sym (sliced .none z) ∙ h))) in
+    let n = outcome .count - 1 in
+    let cut : take (outcome .count) bytes ≡ take n bytes ++ (getD bytes n 0 ∷ []) =
+    ap (λ m. take m bytes) (one-more (outcome .count) some) ∙ take-suc bytes n 0 (omega (arith, some, sliced .within)) in
+    let taken : (a .taken ++ take n bytes) ++ (getD bytes n 0 ∷ []) ≡ before ++ part =
+    append-assoc (a .taken) (take n bytes) (getD bytes n 0 ∷ []) ∙ ap (λ t. a .taken ++ t) (sym cut)
+    ∙ sym (ap (λ (z : After). z .taken) (after-last calls (onGrid (slice bytes)) start ∙ here)) ∙ e in
+    tells-is (stateAfter (a .state) (a .grid) (take n bytes) .part) (number (outcome .reply)) p (sym (sliced .answer) ∙ h)
+    ∙ ap₂ (λ s g. stateAfter s g (take n bytes) .part) (calls-stepped calls .state) (calls-stepped calls .grid)
+    ∙ ap (λ (s : State). s .part) (sym (state-append (a .taken) (take n bytes) fresh emptyGrid))
+    ∙ open-before (a .taken ++ take n bytes) (getD bytes n 0) before part u taken
+  where
+    at-least-one : (n : ℕ) → (n ≡ 0 → ⊥) → 1 ≤ n
+    at-least-one zero f = absurd (f refl)
+    at-least-one (suc n) f = omega arith
+
+    one-more : (n : ℕ) → 1 ≤ n → n ≡ suc (n - 1)
+    one-more n l = omega arith
+
 -- The theorem
 pub demand-3 : (calls : List Call) → Demand3 calls
 demand-3 calls =
-    let sound = calls-sound calls in
     record {
-      otherGrid = λ r grid n. wrong-grid (received calls .state) grid r n;
-      byteTaken = λ b. byte-taken (received calls .state) (received calls .grid) b (sound .possible) (sound .long);
-      sliceTaken = λ bytes. slice-taken (received calls .state) (received calls .grid) bytes (sound .possible) (sound .long);
-      wayBack = λ before text rest u e. found text u calls before rest e;
+      each = λ earlier call later e. made earlier call;
+      wayBack = λ earlier later e before text rest u f. found text u earlier before rest f;
       complete = completed calls;
-      held = holds calls;
+      held = λ earlier later e. holds earlier;
+      completeTells = λ earlier r later e. complete-tells earlier r;
       altered = never-complete calls;
     }

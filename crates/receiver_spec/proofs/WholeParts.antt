@@ -273,13 +273,13 @@ bytes-of : (p : Part) → partBytes p ≡ textOf (p .start) ++ (textsOf (p .data
 unfolding partBytes
 bytes-of p = refl
 
-well-is : (h : Header) (modes : List ℕ) → modeIsHighest h modes ≡ true → h .mode ≡ highest modes
+mode-highest-eq : (h : Header) (modes : List ℕ) → modeIsHighest h modes ≡ true → h .mode ≡ highest modes
 unfolding modeIsHighest
-well-is h modes t = eqb-true (h .mode) (highest modes) t
+mode-highest-eq h modes t = eqb-true (h .mode) (highest modes) t
 
-is-well : (h : Header) (modes : List ℕ) → h .mode ≡ highest modes → modeIsHighest h modes ≡ true
+eq-mode-highest : (h : Header) (modes : List ℕ) → h .mode ≡ highest modes → modeIsHighest h modes ≡ true
 unfolding modeIsHighest
-is-well h modes t = eq-eqb (h .mode) (highest modes) t
+eq-mode-highest h modes t = eq-eqb (h .mode) (highest modes) t
 
 -- what is held after a part
 abbrev pub heldOf : Part → Held
@@ -332,7 +332,7 @@ whole-undamaged (whole {ys} {p} {d} {k} {xs} {c} {e} o hq hk g n v l r z) = go (
         taken = end-taken (c .header .picture) k (headerOf (a .start)) noModes (gridWith (a .datas)) e xs hq v refl long .0 (subst (λ (t : Held). BlockContents radar k t 3 xs e) (a .holds) r)
 
         modes : modeOf (a .start ! 5) ≡ highest (modesOf b)
-        modes = sym (header-facts (a .start) .3) ∙ well-is (headerOf (a .start)) (modesOf b) (subst (λ (t : Held). modeIsHighest (t .header) (t .modes) ≡ true) (taken .1) z)
+        modes = sym (header-facts (a .start) .3) ∙ mode-highest-eq (headerOf (a .start)) (modesOf b) (subst (λ (t : Held). modeIsHighest (t .header) (t .modes) ≡ true) (taken .1) z)
 
 -- ---- and back
 
@@ -454,7 +454,7 @@ undamaged-whole {zs} u =
     (subst (λ t. Whole radar ((textOf (p .start) ++ textsOf (p .datas)) ++ t) (heldOf p)) (ap (λ x. text radar (block radar x k xs)) picture ∙ text-same (block radar q k xs) ∙ ap textOf (sym split))
     (whole {xs = xs} opened (subst (λ x. isPictureCode x ≡ true) (r .endPicture ∙ sym (header-facts (p .start) .1)) (er .picture)) (r .endKind) (end-is-kind k (er .kind)) (end-not-start k (er .kind)) (er .kind)
     (omega (arith, long, end-block-length k (er .kind))) contents
-    (is-well (headerOf (p .start)) (modesOf (p .end)) (header-facts (p .start) .3 ∙ r .mode))))
+    (eq-mode-highest (headerOf (p .start)) (modesOf (p .end)) (header-facts (p .start) .3 ∙ r .mode))))
   where
     p : Part
     p = u .part

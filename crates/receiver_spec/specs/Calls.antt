@@ -9,10 +9,29 @@ use Rattle.text.specs.Part.{gridLength}
 use Rattle.receiver_spec.specs.State.{State, fresh, emptyGrid, isPossible}
 use Rattle.receiver_spec.specs.Receiver.{step}
 
--- What a call returns: an answer (0 to 3, 11 to 22), or a refusal (1 or 2), which is told apart from answers 1 and 2
+-- What a call returns. An answer: 0 quiet; 1 part begun; 2 data text taken; 3 complete, with the part's number (1 intensity, 2 echo top,
+-- 3 quality); 11 to 22, the row that dropped. Or a refusal, 1 or 2, which is thereby told apart from answers 1 and 2
 pub data Reply : Type 0 where
-  answered : ℕ → Reply
+  quiet : Reply
+  partBegun : Reply
+  textTaken : Reply
+  partComplete : ℕ → Reply
+  partDropped : ℕ → Reply
   refused : ℕ → Reply
+
+-- 01's number of each
+abbrev pub number : Reply → ℕ
+number quiet = 0
+number partBegun = 1
+number textTaken = 2
+number (partComplete part) = 3
+number (partDropped n) = n
+number (refused n) = n
+
+-- the reply that has an answer's number; the part is the one that was open before the byte, for at answer 3 none is open from there
+unfoldable pub answered : ℕ → ℕ → Reply
+answered part n =
+    cond (eqb n 0) quiet (cond (eqb n 1) partBegun (cond (eqb n 2) textTaken (cond (eqb n 3) (partComplete part) (partDropped n))))
 
 -- with the count of bytes taken, and the state and the grid that it leaves
 pub record CallOutcome : Type 0 where
@@ -32,16 +51,16 @@ judged s g taken = cond (not (eqb (length g) gridLength)) (refuses 1 s g) (cond 
 -- The byte call
 unfoldable pub byteCall : State → List ℕ → ℕ → CallOutcome
 byteCall s g b =
-    judged s g (record { reply = answered (step s g b .answer); count = 1; state = step s g b .state; grid = step s g b .grid })
+    judged s g (record { reply = answered (s .part) (step s g b .answer); count = 1; state = step s g b .state; grid = step s g b .grid })
 
 -- The bytes of a slice, up to and with the first that is answered other than 0
 unfoldable pub feed : State → List ℕ → List ℕ → CallOutcome
-feed s g [] = record { reply = answered 0; count = 0; state = s; grid = g }
+feed s g [] = record { reply = quiet; count = 0; state = s; grid = g }
 feed s g (b ∷ bytes) =
     let o = step s g b in
     let rest = feed (o .state) (o .grid) bytes in
     cond (eqb (o .answer) 0) (record { reply = rest .reply; count = suc (rest .count); state = rest .state; grid = rest .grid })
-    (record { reply = answered (o .answer); count = 1; state = o .state; grid = o .grid })
+    (record { reply = answered (s .part) (o .answer); count = 1; state = o .state; grid = o .grid })
 
 -- The slice call
 unfoldable pub sliceCall : State → List ℕ → List ℕ → CallOutcome
@@ -66,10 +85,6 @@ bytesOf (byte b) = b ∷ []
 bytesOf (slice bytes) = bytes
 
 -- 01: the last byte that a call took has that call's answer; those that it took before have 0
-abbrev pub number : Reply → ℕ
-number (answered n) = n
-number (refused n) = n
-
 abbrev pub spread : ℕ → ℕ → List ℕ
 spread zero answer = []
 spread (suc zero) answer = answer ∷ []

@@ -6,20 +6,38 @@ use mathlib.Core.List.{List, [], _∷_, _++_}
 use lib.ListN.{length, take, drop}
 use Rattle.general_laws.specs.Bytes.{_!_}
 use Rattle.text.specs.Text.{FD}
-use Rattle.text.specs.Part.{gridLength, StartText, UndamagedPart, AlteredTo, partHeader, partModes, gridOf}
+use Rattle.text.specs.Part.{startPart, StartText, UndamagedPart, AlteredTo, partHeader, partModes, gridOf}
 use Rattle.receiver_spec.specs.State.{State}
 use Rattle.receiver_spec.specs.Receiver.{step}
-use Rattle.receiver_spec.specs.Calls.{answered, CallOutcome, refuses, Request, byte, slice, ask, number, spread, Call, After, received, singly, answersOf, stateAfter, gridAfter}
+use Rattle.receiver_spec.specs.Calls.{quiet, partComplete, number, answered, CallOutcome, refuses, Request, byte, slice, Call, onGrid, elsewhere, ask, spread, After, next, received, singly, answersOf, stateAfter, gridAfter}
 
 -- A slice call takes bytes up to and with the first that is answered other than 0: the last byte taken has the call's answer,
--- those before it 0, and all bytes are taken where the answer is 0. State and grid are those after the bytes taken
+-- those before it 0, and all bytes are taken where the answer is 0. State and grid are those after the bytes taken.
+-- No answer without a byte: a call that takes none is answered 0, and none is taken of an empty slice alone
 pub record SliceTaken (s : State) (g bytes : List ℕ) (outcome : CallOutcome) : Type 0 where
-  pub answer : outcome .reply ≡ answered (number (outcome .reply))
+  pub answer : outcome .reply ≡ answered (stateAfter s g (take (outcome .count - 1) bytes) .part) (number (outcome .reply))
   pub within : outcome .count ≤ length bytes
   pub each : answersOf s g (take (outcome .count) bytes) ≡ spread (outcome .count) (number (outcome .reply))
   pub all : number (outcome .reply) ≡ 0 → outcome .count ≡ length bytes
+  pub none : outcome .count ≡ 0 → outcome .reply ≡ quiet
+  pub some : 1 ≤ length bytes → 1 ≤ outcome .count
   pub state : outcome .state ≡ stateAfter s g (take (outcome .count) bytes)
   pub grid : outcome .grid ≡ gridAfter s g (take (outcome .count) bytes)
+
+-- What one call of a list returned, took and left; a is what the calls before it came to. Lent a grid of another length, it is refused
+-- with 1, takes nothing and leaves all as it was. Otherwise it is not refused: a byte call takes its byte, and its answer is the step's
+abbrev pub CallMade : After → Call → Type 0
+CallMade a (onGrid (byte b)) =
+    let o = step (a .state) (a .grid) b in
+    (ask (a .state) (a .grid) (byte b) ≡ record { reply = answered (a .state .part) (o .answer); count = 1; state = o .state; grid = o .grid })
+    × (next a (onGrid (byte b)) ≡ record { state = o .state; grid = o .grid; taken = a .taken ++ (b ∷ []); said = a .said ++ (o .answer ∷ []) })
+CallMade a (onGrid (slice bytes)) =
+    let outcome = ask (a .state) (a .grid) (slice bytes) in
+    SliceTaken (a .state) (a .grid) bytes outcome
+    × (next a (onGrid (slice bytes))
+    ≡ record { state = outcome .state; grid = outcome .grid; taken = a .taken ++ take (outcome .count) bytes; said = a .said ++ spread (outcome .count) (number (outcome .reply)) })
+CallMade a (elsewhere r grid other) =
+    (ask (a .state) grid r ≡ refuses 1 (a .state) grid) × (next a (elsewhere r grid other) ≡ a)
 
 -- bytes that end with an undamaged part
 pub record EndsUndamaged (bytes : List ℕ) : Type 0 where
@@ -35,21 +53,23 @@ pub record WayBack (here : After) (before text rest : List ℕ) : Type 0 where
   pub grid : here .grid ≡ singly (text ++ rest) .grid
   pub answers : drop (length before + (length text - 1)) (here .said) ≡ drop (length text - 1) (singly (text ++ rest) .said)
 
--- What every list of calls comes to. A list's beginnings are lists too, so this holds after each of its calls
+-- What every list of calls comes to
 pub record Demand3 (calls : List Call) : Type 0 where
-  -- The call after these: lent a grid of another length, it is refused with 1 and leaves all as it was;
-  -- otherwise it is not refused, a byte call's answer is the step's, and a slice call stops after the first byte answered other than 0
-  pub otherGrid : (r : Request) (grid : List ℕ) → length grid ≢ gridLength → ask (received calls .state) grid r ≡ refuses 1 (received calls .state) grid
-  pub byteTaken : (b : ℕ) → let o = step (received calls .state) (received calls .grid) b in
-      ask (received calls .state) (received calls .grid) (byte b) ≡ record { reply = answered (o .answer); count = 1; state = o .state; grid = o .grid }
-  pub sliceTaken : (bytes : List ℕ) → SliceTaken (received calls .state) (received calls .grid) bytes (ask (received calls .state) (received calls .grid) (slice bytes))
-  -- A start text is enough to find the way back
-  pub wayBack : (before text rest : List ℕ) → StartText text → received calls .taken ≡ before ++ (text ++ rest) → WayBack (received calls) before text rest
+  -- Each call of the list, with those before it
+  pub each : (earlier : List Call) (call : Call) (later : List Call) → calls ≡ earlier ++ (call ∷ later) → CallMade (received earlier) call
+  -- A start text is enough to find the way back: compared after each call
+  pub wayBack : (earlier later : List Call) → calls ≡ earlier ++ later → (before text rest : List ℕ) → StartText text
+      → received earlier .taken ≡ before ++ (text ++ rest) → WayBack (received earlier) before text rest
   -- A byte is answered 3, complete, exactly when the bytes up to it end with an undamaged part
   pub complete : (before : List ℕ) (b : ℕ) (rest : List ℕ) → received calls .taken ≡ before ++ (b ∷ rest)
       → (received calls .said ! length before ≡ 3) ↔ EndsUndamaged (before ++ (b ∷ []))
-  -- Then header, modes and grid are that part's
-  pub held : (before part : List ℕ) (u : UndamagedPart part) → received calls .taken ≡ before ++ part
-      → (received calls .state .header ≡ partHeader (u .part)) × (received calls .state .modes ≡ partModes (u .part)) × (received calls .grid ≡ gridOf (u .part))
+  -- After the call that took its last byte, header, modes and grid are that part's
+  pub held : (earlier later : List Call) → calls ≡ earlier ++ later → (before part : List ℕ) (u : UndamagedPart part)
+      → received earlier .taken ≡ before ++ part
+      → (received earlier .state .header ≡ partHeader (u .part)) × (received earlier .state .modes ≡ partModes (u .part)) × (received earlier .grid ≡ gridOf (u .part))
+  -- and the number that complete tells is that part's
+  pub completeTells : (earlier : List Call) (r : Request) (later : List Call) → calls ≡ earlier ++ (onGrid r ∷ later) → (p : ℕ)
+      → ask (received earlier .state) (received earlier .grid) r .reply ≡ partComplete p
+      → (before part : List ℕ) (u : UndamagedPart part) → received (earlier ++ (onGrid r ∷ [])) .taken ≡ before ++ part → p ≡ startPart (u .part .start)
   -- One altered byte, to any value but `FD`, never yields complete
   pub altered : (part : List ℕ) (v : ℕ) → UndamagedPart part → v ≢ FD → AlteredTo v part (received calls .taken) → (i : ℕ) → received calls .said ! i ≢ 3

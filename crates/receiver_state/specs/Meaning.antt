@@ -31,7 +31,7 @@ unfoldable pub numberOf : Answer → ℕ
 numberOf Quiet = 0
 numberOf Begun = 1
 numberOf Taken = 2
-numberOf Complete = 3
+numberOf (Complete part) = 3
 numberOf (Dropped n) = n
 numberOf (Refused n) = n
 

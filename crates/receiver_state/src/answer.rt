@@ -2,12 +2,14 @@
 ghost use mathlib.Core.Path.{_≡_};
 ghost use Rattle.receiver_state.specs.Meaning.{numberOf};
 
-// A call's answer. 01's numbers: 0, 1, 2, 3; 11 to 22; refusals 1 and 2.
+// A call's answer, or its refusal. 01's numbers: 0 quiet, 1 part begun, 2 data text taken, 3 complete,
+// which tells the part's number (1 intensity, 2 echo top, 3 quality); 11 to 22, the row that dropped;
+// refusals 1 and 2.
 pub enum Answer {
     Quiet,
     Begun,
     Taken,
-    Complete,
+    Complete(u8),
     Dropped(u8),
     Refused(u8),
 }
@@ -20,7 +22,7 @@ pub fn number_of(a: Answer) -> u8
         Answer::Quiet => 0,
         Answer::Begun => 1,
         Answer::Taken => 2,
-        Answer::Complete => 3,
+        Answer::Complete(_) => 3,
         Answer::Dropped(n) => n,
         Answer::Refused(n) => n,
     }

@@ -1,5 +1,5 @@
 -- What one byte does, in the code's own terms: next state, answer, effect on the grid. Each definition here is one of `receiver_spec`'s
--- Receiver, row for row; proofs/Same shows that they are the same. Assumes nothing.
+-- Receiver, row for row; proofs/Laws shows that they are the same (step-same). Assumes nothing.
 use Prim.Native.Nat.{ℕ}
 use mathlib.Core.Bool.{cond, not, _||_}
 use lib.Dec.{eqb}

@@ -13,14 +13,14 @@ use Rattle.general_laws.specs.Bytes.{every}
 use Rattle.text.specs.Text.{xorAll}
 use Rattle.text.specs.Kinds.{isStartKind, isEndKind, partOf, textNumber, blockLength}
 use Rattle.text.specs.DataBlock.{isPayloadByte}
-use Rattle.general_laws.proofs.Lists.{longer}
+use Rattle.general_laws.proofs.Lists.{longer, from-on}
 use Rattle.general_laws.proofs.Tests.{and-split, by-test}
 use Rattle.text_laws.proofs.KindTable.{block-most, data-number}
 use Rattle.receiver_spec.specs.Receiver.{_⊕_}
 use Rattle.receiver_spec.proofs.Laws.{xor-cons, xor-nil}
 use Rattle.receiver_bytes_seen.specs.AsNumber.{pushSeen, pushCount}
 use Rattle.receiver_bytes_seen.specs.Behind.{seenAfter, countAfter}
-use Rattle.receiver_bytes_seen.proofs.Laws.{from-on, full}
+use Rattle.receiver_bytes_seen.proofs.Laws.{count-stays-5}
 use Rattle.receiver_state.specs.Meaning.{applied}
 use Rattle.receiver_state.specs.declared.state.Frame.{Frame}
 use Rattle.receiver_state.specs.declared.state.State.{State}
@@ -94,14 +94,14 @@ module _ (s : State) (h : InPayload (s .frame)) where
   k = s .frame .kind
 
   -- one byte more
-  pub paid-byte :
+  pub payload-byte-passed :
       (g bytes grid : List ℕ) (place check seen count i : ℕ)
       → run s g (take i bytes) 0 ≡ passed (advancedState s place check seen count) grid i → i < length bytes
       → 3 ≤ place → place < blockLength k → isPayloadByte (partOf k) (getD bytes i 0) ≡ true
       → run s g (take (i + 1) bytes) 0
       ≡ passed (advancedState s (place + 1) (check ⊕ getD bytes i 0) (pushSeen seen (getD bytes i 0)) (pushCount count)) (set grid (gridPlace k place) (getD bytes i 0)) (i + 1)
   unfolding isQuiet applied
-  paid-byte g bytes grid place check seen count i before l low high rule =
+  payload-byte-passed g bytes grid place check seen count i before l low high rule =
       let b = getD bytes i 0 in
       let d = advanced-step s place check seen count b (h .start) (h .end) low high rule in
       ap (λ xs. run s g xs 0) (sym (longer bytes i l)) ∙ passed-byte s g (take i bytes) 0 b before (rw d) ∙ rw d
@@ -110,40 +110,40 @@ module _ (s : State) (h : InPayload (s .frame)) where
   next-spot : (place : ℕ) → 3 ≤ place → gridPlace k (place + 1) ≡ suc (gridPlace k place)
   next-spot place low = omega (arith, low)
 
-  paid-all :
+  payload-bytes-passed :
       (xs g : List ℕ) (place check seen count i : ℕ) → every (isPayloadByte (partOf k)) xs ≡ true → 3 ≤ place → place + length xs ≤ blockLength k
       → run (advancedState s place check seen count) g xs i
       ≡ passed (advancedState s (place + length xs) (check ⊕ xorAll xs) (seenAfter seen xs) (countAfter count xs)) (sets g (gridPlace k place) xs) (i + length xs)
   unfolding run every isQuiet applied seenAfter countAfter
-  paid-all [] g place check seen count i rule low high = rw (add-zero place, add-zero i, xor-nil check)
-  paid-all (b ∷ xs) g place check seen count i rule low high =
+  payload-bytes-passed [] g place check seen count i rule low high = rw (add-zero place, add-zero i, xor-nil check)
+  payload-bytes-passed (b ∷ xs) g place check seen count i rule low high =
       let (first, rest) = and-split (isPayloadByte (partOf k) b) (every (isPayloadByte (partOf k)) xs) rule in
       let d = advanced-step s place check seen count b (h .start) (h .end) low (omega (arith, high)) first in
       rw d
-      (paid-all xs (set g (gridPlace k place) b) (place + 1) (check ⊕ b) (pushSeen seen b) (pushCount count) (i + 1) rest (omega (arith, low)) (omega (arith, high))
+      (payload-bytes-passed xs (set g (gridPlace k place) b) (place + 1) (check ⊕ b) (pushSeen seen b) (pushCount count) (i + 1) rest (omega (arith, low)) (omega (arith, high))
       ∙ rw (xor-cons check b xs, next-spot place low, far place xs, far i xs))
     where
       far : (n : ℕ) (xs : List ℕ) → n + 1 + length xs ≡ n + suc (length xs)
       far n xs = omega arith
 
-  pub paid-whole :
+  pub whole-payload-passed :
       (xs g : List ℕ) → every (isPayloadByte (partOf k)) xs ≡ true → s .frame .place + length xs ≤ blockLength k
       → run s g xs 0
       ≡ passed (advancedState s (s .frame .place + length xs) (s .frame .check ⊕ xorAll xs) (seenAfter (s .seen) xs) (countAfter (s .frame .count) xs))
       (sets g (gridPlace k (s .frame .place)) xs) (length xs)
-  paid-whole xs g rule high =
+  whole-payload-passed xs g rule high =
       ap (λ (t : State). run t g xs 0) (sym (advanced-first s))
-      ∙ paid-all xs g (s .frame .place) (s .frame .check) (s .seen) (s .frame .count) 0 rule (h .low) high
+      ∙ payload-bytes-passed xs g (s .frame .place) (s .frame .check) (s .seen) (s .frame .count) 0 rule (h .low) high
       ∙ ap (passed _ _) (zero-add (length xs))
 
   -- the same, under the names that the code has for its parts
-  pub paid-on :
+  pub payload-passed-on :
       (bytes g : List ℕ) {grid : List ℕ} {check seen : ℕ} {t : State} → every (isPayloadByte (partOf k)) bytes ≡ true → s .frame .count ≡ 5
       → s .frame .place + length bytes ≤ blockLength k → grid ≡ sets g (gridPlace k (s .frame .place)) bytes → check ≡ s .frame .check ⊕ xorAll bytes
       → seen ≡ seenAfter (s .seen) bytes → t ≡ advancedState s (s .frame .place + length bytes) check seen 5
       → passed t grid (length bytes) ≡ run s g (take (allowedPrefix (partOf k) bytes) bytes) 0
-  paid-on bytes g rule five high e c v q =
+  payload-passed-on bytes g rule five high e c v q =
       rw (q, e, c, v)
       (passed-first s g bytes (allowed-all (partOf k) bytes rule)
-      (ap (λ n. advancedState s (s .frame .place + length bytes) (s .frame .check ⊕ xorAll bytes) (seenAfter (s .seen) bytes) n) (sym (full bytes (s .frame .count) five)))
-      (ap (λ xs. run s g xs 0) (take-all (length bytes) bytes (omega arith)) ∙ paid-whole bytes g rule high))
+      (ap (λ n. advancedState s (s .frame .place + length bytes) (s .frame .check ⊕ xorAll bytes) (seenAfter (s .seen) bytes) n) (sym (count-stays-5 bytes (s .frame .count) five)))
+      (ap (λ xs. run s g xs 0) (take-all (length bytes) bytes (omega arith)) ∙ whole-payload-passed bytes g rule high))

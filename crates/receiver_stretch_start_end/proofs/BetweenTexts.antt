@@ -10,13 +10,13 @@ use lib.Dec.{eqb}
 use lib.ListN.{length, getD, take, drop}
 use borrow.Author.Tests.{eqb-true, eqb-false, eq-eqb, ne-eqb, not-true}
 use Rattle.text.specs.Text.{FD}
-use Rattle.general_laws.proofs.Lists.{longer}
+use Rattle.general_laws.proofs.Lists.{longer, from-on}
 use Rattle.general_laws.proofs.Tests.{and-split}
 use Rattle.receiver_spec.specs.Seen.{dueByte}
 use Rattle.receiver_spec.proofs.Laws.{only-FD}
 use Rattle.receiver_bytes_seen.specs.AsNumber.{seenOf, pushSeen, pushCount}
 use Rattle.receiver_bytes_seen.specs.Behind.{seenAfter, countAfter}
-use Rattle.receiver_bytes_seen.proofs.Laws.{seen-append, count-append, from-on}
+use Rattle.receiver_bytes_seen.proofs.Laws.{seen-append, count-append}
 use Rattle.receiver_state.specs.Meaning.{applied}
 use Rattle.receiver_state.specs.declared.state.State.{State}
 use Rattle.receiver_state.specs.declared.answer.Answer.the-variants.{Quiet}
@@ -131,13 +131,13 @@ waited-byte s bytes seen count i before l e free m n =
 
 pub waited-done : (s : State) (bytes : List ℕ) {seen count i n : ℕ} {t : State} → WaitedSoFar s bytes seen count i → n ≡ i → t ≡ seenOn s seen count
     → Waited s n bytes (record { state = t; at = i })
-waited-done s bytes {seen} {count} {i} {n} so e q =
+waited-done s bytes {seen} {count} {i} {n} waited e q =
     let first = ap (λ k. take k bytes) (sym e) in
     record {
       long = sym e;
-      inside = omega (arith, e, so .inside);
-      there = q ∙ ap₂ (seenOn s) (so .seen-is ∙ ap (seenAfter (s .seen)) first) (so .count-is ∙ ap (countAfter (s .frame .count)) first);
-      runs = λ g. passed-first s g bytes e q (so .runs g);
+      inside = omega (arith, e, waited .inside);
+      state-is = q ∙ ap₂ (seenOn s) (waited .seen-is ∙ ap (seenAfter (s .seen)) first) (waited .count-is ∙ ap (countAfter (s .frame .count)) first);
+      runs = λ g. passed-first s g bytes e q (waited .runs g);
     }
 
 -- ---- how far they go

@@ -26,24 +26,25 @@ use Rattle.receiver_spec.specs.Seen.{endsOpening}
 use Rattle.receiver_spec.proofs.Laws.{Machine, mk, AllQuiet, block, opening-seen, seenControl, seenCheck, start-quiet, due-quiet, held, radar, radar-laws, machine, start-taken, end-taken}
 use Rattle.receiver_bytes_seen.specs.AsNumber.{seenOf}
 use Rattle.receiver_bytes_seen.specs.Behind.{seenAfter}
-use Rattle.receiver_bytes_seen.proofs.Laws.{count-five, from-on}
+use Rattle.receiver_bytes_seen.proofs.Laws.{count-five}
+use Rattle.general_laws.proofs.Lists.{from-on, Bytes, bytes-front}
 use Rattle.receiver_state.specs.Meaning.{stateOf}
 use Rattle.receiver_state.specs.declared.state.State.{State}
 use Rattle.receiver_decisions.specs.Decisions.{frame, state}
 use Rattle.receiver_stretches.specs.Run.{passed, run}
-use Rattle.receiver_stretches.proofs.Laws.{Bytes, coded, quiet-passed, bytes-front}
+use Rattle.receiver_stretches.proofs.Laws.{stateOfMachine, quiet-passed}
 use Rattle.receiver_stretch_start_end.specs.Ahead.{isIdle, isGap, blockAhead, isFramed, startAhead, endAhead}
 use Rattle.receiver_stretch_start_end.proofs.BetweenTexts.{idle-has, gap-has}
 
 -- quiet bytes, five or more
 long-passed :
     {m n : Machine radar} (s : State) (g : List ℕ) (len : ℕ) (bytes : List ℕ) → machine (stateOf s) g ≡ m → AllQuiet radar m (take len bytes) n → Bytes bytes
-    → len ≤ length bytes → 5 ≤ len → run s g (take len bytes) 0 ≡ passed (coded (seenAfter (s .seen) (take len bytes)) 5 n) (n .held .grid) len
+    → len ≤ length bytes → 5 ≤ len → run s g (take len bytes) 0 ≡ passed (stateOfMachine (seenAfter (s .seen) (take len bytes)) 5 n) (n .held .grid) len
 long-passed {n} s g len bytes e q small inside five =
     let xs = take len bytes in
     let size : length xs ≡ len = length-take-le len bytes inside in
     quiet-passed s g 0 q e (bytes-front len bytes small)
-    ∙ ap₂ (λ c i. passed (coded (seenAfter (s .seen) xs) c n) (n .held .grid) i) (count-five (s .frame .count) xs (omega (arith, size, five))) (zero-add (length xs) ∙ size)
+    ∙ ap₂ (λ c i. passed (stateOfMachine (seenAfter (s .seen) xs) c n) (n .held .grid) i) (count-five (s .frame .count) xs (omega (arith, size, five))) (zero-add (length xs) ∙ size)
 
 module _ (s : State) (bytes : List ℕ) (opened : endsOpening (seenOf (s .seen) (s .frame .count)) FD ≡ true)
     (inside : 34 ≤ length bytes) (small : Bytes bytes) (eor : bytes ! 32 ≡ EOR) (checked : bytes ! 33 ≡ checkByte (blockAhead bytes)) where
@@ -88,7 +89,7 @@ module _ (s : State) (bytes : List ℕ) (opened : endsOpening (seenOf (s .seen) 
       let whole : here ≡ block radar q k xs = split-3 here (omega (arith, long)) (r .first) in
       let contents = start-taken q k before after xs (r .picture) (r .kind) size .1 (subst (λ b. isStartBlock b ≡ true) whole ok, ap (λ b. held (headerOf b) noModes g) whole) in
       let quiet = start-quiet radar radar-laws (r .picture) (r .kind) (omega (arith, size, start-block-length k (r .kind))) contents in
-      subst₂ (λ i b. run s g (take 34 bytes) 0 ≡ passed (coded seen 5 (mk radar [] i k q 0 0 (checkByte b) after)) g 34)
+      subst₂ (λ i b. run s g (take 34 bytes) 0 ≡ passed (stateOfMachine seen 5 (mk radar [] i k q 0 0 (checkByte b) after)) g 34)
       (ap (λ n. suc (suc n)) (start-block-length k (r .kind))) (sym whole)
       (long-passed s g 34 bytes (rw (place, part, kind, picture, due, check, control))
       (subst (λ t. AllQuiet radar (mk radar seenControl 0 0 0 0 0 0 before) t (mk radar (seenCheck radar radar-laws q k xs) (suc (suc (blockLength k))) k q 0 0 (checkByte (block radar q k xs)) after))
@@ -109,8 +110,8 @@ module _ (s : State) (bytes : List ℕ) (opened : endsOpening (seenOf (s .seen) 
       let contents = end-taken q k (s .header) (s .modes) g after xs (r .picture) (r .kind) eight size .1 (subst (λ b. isEndBlock (s .header .radars) b ≡ true) whole ok, ap (λ b. held (s .header) (modesOf b) g) whole) in
       let quiet = due-quiet radar radar-laws {c = before} p d part (subst (λ x. isPictureCode x ≡ true) hq (r .picture)) hk (end-is-kind k (r .kind)) (end-not-start k (r .kind)) (omega (arith, size, end-block-length k (r .kind))) contents in
       let framed : here ≡ block radar (s .header .picture) k xs = whole ∙ ap (λ x. block radar x k xs) hq in
-      subst (λ i. run s g (take 34 bytes) 0 ≡ passed (coded seen 5 (mk radar [] i k q p d (checkByte here) after)) g 34) (ap (λ n. suc (suc n)) (end-block-length k (r .kind)))
-      (subst₂ (λ x b. run s g (take 34 bytes) 0 ≡ passed (coded seen 5 (mk radar [] (suc (suc (blockLength k))) k x p d (checkByte b) after)) g 34) (sym hq) (sym framed)
+      subst (λ i. run s g (take 34 bytes) 0 ≡ passed (stateOfMachine seen 5 (mk radar [] i k q p d (checkByte here) after)) g 34) (ap (λ n. suc (suc n)) (end-block-length k (r .kind)))
+      (subst₂ (λ x b. run s g (take 34 bytes) 0 ≡ passed (stateOfMachine seen 5 (mk radar [] (suc (suc (blockLength k))) k x p d (checkByte b) after)) g 34) (sym hq) (sym framed)
       (long-passed s g 34 bytes (rw (place, kind, picture, check, control))
       (subst (λ t. AllQuiet radar (mk radar seenControl 0 0 0 p d 0 before) t (mk radar (seenCheck radar radar-laws (s .header .picture) k xs) (suc (suc (blockLength k))) k (s .header .picture) p d (checkByte (block radar (s .header .picture) k xs)) after))
       (sym (stretch ∙ ap (λ b. b ++ (EOR ∷ checkByte b ∷ [])) framed)) quiet)

@@ -57,7 +57,7 @@ waitedFor s xs = seenOn s (seenAfter (s .seen) xs) (countAfter (s .frame .count)
 pub record Waited (s : State) (n : ℕ) (bytes : List ℕ) (r : StretchResult) : Type 0 where
   pub long : r .at ≡ n
   pub inside : n ≤ length bytes
-  pub there : r .state ≡ waitedFor s (take n bytes)
+  pub state-is : r .state ≡ waitedFor s (take n bytes)
   pub runs : Passes s (take n bytes) r
 
 -- ---- a whole start or end text from its `FD` on, up to its last byte: 34 bytes, or none. Notice 49, 4(1)(1-1)(c)(ア) to (ウ)

@@ -1,12 +1,12 @@
 // A whole start or end text, up to its last byte.
 use crate::between::is_gap;
 use crate::between::is_idle;
-use receiver_bytes_seen::behind::check_behind;
 use receiver_bytes_seen::behind::seen_behind;
 use receiver_bytes_seen::seen::ends_opening;
 use receiver_state::state::Frame;
 use receiver_state::state::State;
 use receiver_stretches::stretch::StretchResult;
+use text::check::check_byte;
 use text_end_block::read::read_end;
 use text_kinds::table::kind_of;
 use text_start_block::read::read_start;
@@ -14,18 +14,11 @@ ghost use mathlib.Core.Path.{_≡_};
 ghost use mathlib.Core.Bool.{true};
 ghost use Prim.Native.Nat.{_≤_};
 ghost use lib.ListN.{length, take};
-ghost use Rattle.text.specs.Text.{FD, checkByte};
+ghost use Rattle.text.specs.Text.{FD};
 ghost use Rattle.receiver_spec.specs.Seen.{endsOpening};
 ghost use Rattle.receiver_bytes_seen.specs.AsNumber.{seenOf};
 ghost use Rattle.receiver_stretches.specs.Run.{Passes};
 ghost use Rattle.receiver_stretch_start_end.specs.Ahead.{isIdle, startAhead, endAhead, textAhead};
-
-// A block's check byte. Notice 49, 4(1)(1-1)(c)(ア)
-fn block_check(block: &[u8]) -> u8
-    ensures { λ r. ⌜ r ≡ checkByte (now (block .entry)) ⌝ }
-{
-    check_behind(0, block) ^ 0xFE
-}
 
 // Past a start text that stands here whole from its `FD` on, up to its last byte.
 // Notice 49, 4(1)(1-1)(c)(ア) and (イ)
@@ -36,9 +29,9 @@ fn start_ahead(s: State, bytes: &[u8]) -> StretchResult
     ensures { λ r. ⌜ Passes s (take (startAhead (now (bytes .entry))) (now (bytes .entry))) r ⌝ }
 {
     let block = &bytes[..32];
-    let check = block_check(block);
+    let check = check_byte(block);
     let read = read_start(block);
-    if (bytes[32] != 0xFE) | (bytes[33] != check) | !read.kept {
+    if (bytes[32] != 0xFE) | (bytes[33] != check) | !read.kept { // no whole start text
         return StretchResult { state: s, at: 0 };
     }
     let header = read.header;
@@ -76,7 +69,7 @@ fn end_ahead(s: State, bytes: &[u8]) -> StretchResult
     if !is_gap(f) | (picture != header.picture) | (kind != kind_of(f.part, f.due)) {
         return StretchResult { state: s, at: 0 };
     }
-    let check = block_check(block);
+    let check = check_byte(block);
     let radars = header.radars;
     let read = read_end(radars, block);
     if (bytes[32] != 0xFE) | (bytes[33] != check) | !read.kept {

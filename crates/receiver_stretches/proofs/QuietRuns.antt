@@ -1,11 +1,11 @@
 -- Bytes that `receiver_spec`'s machine answers 0 are a stretch of the code's. Assumes nothing.
 use mathlib.Core.Path.{_≡_, ap, _∙_, subst}
 use mathlib.Core.Bool.{true}
-use mathlib.Core.List.{List, [], _∷_}
-use Prim.Native.Nat.{ℕ, zero, suc, _+_}
+use mathlib.Core.List.{List}
+use Prim.Native.Nat.{ℕ, suc, _+_}
 use native.Mathlib.Nat.{add-zero}
 use native.Mathlib.Omega.{arith}
-use lib.ListN.{length, take}
+use lib.ListN.{length}
 use borrow.Author.Tests.{eq-eqb}
 use Rattle.receiver_spec.proofs.Laws.{Machine, Out, answering, move, AllQuiet, quiet-none, quiet-byte, radar, machine, out, step-is-move}
 use Rattle.receiver_state.specs.Meaning.{stateOf, applied}
@@ -16,11 +16,11 @@ use Rattle.receiver_bytes_seen.specs.Behind.{seenAfter, countAfter}
 use Rattle.receiver_byte_call.specs.Returned.{isQuiet}
 use Rattle.receiver_stretches.specs.Run.{passed, run}
 use Rattle.receiver_byte_call.proofs.Laws.{decide-facts, same-step}
-use Rattle.receiver_stretches.proofs.Runs.{Bytes}
+use Rattle.general_laws.proofs.Lists.{Bytes}
 
 -- the code's state for a machine: it holds the bytes seen as a number and their count
-abbrev pub coded : ℕ → ℕ → Machine radar → State
-coded seen count m =
+abbrev pub stateOfMachine : ℕ → ℕ → Machine radar → State
+stateOfMachine seen count m =
     record {
       seen = seen;
       frame = frame (m .place) (m .kind) (m .picture) (m .part) (m .due) (m .check) count;
@@ -31,9 +31,9 @@ coded seen count m =
 -- they are passed
 pub quiet-passed :
     {m n : Machine radar} {xs : List ℕ} (s : State) (g : List ℕ) (j : ℕ) → AllQuiet radar m xs n → machine (stateOf s) g ≡ m → Bytes xs
-    → run s g xs j ≡ passed (coded (seenAfter (s .seen) xs) (countAfter (s .frame .count) xs) n) (n .held .grid) (j + length xs)
+    → run s g xs j ≡ passed (stateOfMachine (seenAfter (s .seen) xs) (countAfter (s .frame .count) xs) n) (n .held .grid) (j + length xs)
 unfolding run seenAfter countAfter
-quiet-passed s g j quiet-none e small = subst (λ (t : Machine radar). passed s g j ≡ passed (coded (s .seen) (s .frame .count) t) (t .held .grid) (j + 0)) e (rw add-zero)
+quiet-passed s g j quiet-none e small = subst (λ (t : Machine radar). passed s g j ≡ passed (stateOfMachine (s .seen) (s .frame .count) t) (t .held .grid) (j + 0)) e (rw add-zero)
 quiet-passed {n} s g j (quiet-byte {n = o} {b} {bytes = xs} p r) e small =
     let (quiet, reply, seen, count) = decide-facts s b in
     let moved : out (meaning g b (decide s b)) ≡ answering radar 0 o =
@@ -43,10 +43,3 @@ quiet-passed {n} s g j (quiet-byte {n = o} {b} {bytes = xs} p r) e small =
     rw q
     (quiet-passed (decide s b .next) (applied g (decide s b .effect) b) (j + 1) r (ap (λ (t : Out radar). t .machine) moved) (λ i. small (suc i))
     ∙ rw (seen, count, far))
-
--- the first bytes of a list of bytes are bytes
-pub bytes-front : (n : ℕ) (xs : List ℕ) → Bytes xs → Bytes (take n xs)
-bytes-front zero xs small j = omega arith
-bytes-front (suc n) [] small j = omega arith
-bytes-front (suc n) (x ∷ xs) small zero = small 0
-bytes-front (suc n) (x ∷ xs) small (suc j) = bytes-front n xs (λ i. small (suc i)) j

@@ -26,6 +26,7 @@ use Rattle.receiver_byte_call.specs.Returned.{replyOf, returned, isQuiet}
 use Rattle.receiver_bytes_seen.specs.Behind.{seenAfter}
 use Rattle.receiver_stretches.specs.Run.{RunOutcome, passed, run}
 use Rattle.receiver_byte_call.proofs.Laws.{decide-facts, same-step, applied-here}
+use Rattle.general_laws.proofs.Lists.{Bytes, taken-most}
 
 -- one byte of it, and its end
 module _ (s : State) (g : List ℕ) (bytes : List ℕ) (i : ℕ) (h : i < length bytes) where
@@ -60,10 +61,6 @@ counted r = record { reply = r .reply; count = suc (r .count); state = r .state;
 later : (i : ℕ) (r : CallOutcome) → plus (i + 1) r ≡ plus i (counted r)
 later i r = ap (λ n. record { reply = r .reply; count = n; state = r .state; grid = r .grid }) (omega arith)
 
--- the bytes of a list are bytes
-abbrev pub Bytes : List ℕ → Type 0
-Bytes bytes = (j : ℕ) → getD bytes j 0 < 256
-
 -- one byte of `feed`, by whether its decision is quiet
 module _ (s : State) (g : List ℕ) (b : ℕ) (bytes : List ℕ) (small : b < 256) where
   feed-quiet : isQuiet (decide s b .answer) ≡ true
@@ -74,7 +71,7 @@ module _ (s : State) (g : List ℕ) (b : ℕ) (bytes : List ℕ) (small : b < 25
   feed-stop : isQuiet (decide s b .answer) ≡ false
       → feed (stateOf s) g (b ∷ bytes)
       ≡ record {
-        reply = answered (numberOf (decide s b .answer));
+        reply = answered (s .frame .part) (numberOf (decide s b .answer));
         count = 1;
         state = stateOf (decide s b .next);
         grid = applied g (decide s b .effect) b;
@@ -178,11 +175,6 @@ drop-taken : (n : ℕ) (xs : List ℕ) → drop (length (take n xs)) xs ≡ drop
 drop-taken zero xs = refl
 drop-taken (suc n) [] = refl
 drop-taken (suc n) (x ∷ xs) = drop-taken n xs
-
-pub taken-most : (n : ℕ) (xs : List ℕ) → length (take n xs) ≤ length xs
-taken-most zero xs = omega arith
-taken-most (suc n) [] = omega arith
-taken-most (suc n) (x ∷ xs) = omega (arith, taken-most n xs)
 
 -- from byte i of a slice on, up to byte j, each is answered 0, and they led to this state and grid
 pub record RunsTo (s : State) (g : List ℕ) (i : ℕ) (t : State) (h : List ℕ) (j : ℕ) (bytes : List ℕ) : Type 0 where

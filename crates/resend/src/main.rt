@@ -33,12 +33,6 @@ fn within(n: usize, most: usize) -> usize
     n
 }
 
-// At answer 3 no part is open any more: its number is that of the state before the call
-fn open_part(s: State) -> u8 {
-    let f = s.frame;
-    f.part
-}
-
 // Writes the first `n` bytes of the output, and gives whether they are written. A program has no exit
 // status, so a write that failed is told on standard error
 fn write_first(output: &[u8], n: usize) -> bool {
@@ -66,9 +60,9 @@ fn send(part: u8, held: State, grid: &[u8], output: &mut [u8]) -> bool {
 }
 
 // At answer 3, complete, sends the part; gives whether to go on
-fn send_complete(answer: Answer, part: u8, held: State, grid: &[u8], output: &mut [u8]) -> bool {
+fn send_complete(answer: Answer, held: State, grid: &[u8], output: &mut [u8]) -> bool {
     match answer {
-        Answer::Complete => send(part, held, grid, output),
+        Answer::Complete(part) => send(part, held, grid, output),
         _ => true,
     }
 }
@@ -78,7 +72,6 @@ fn feed(state: State, grid: &mut [u8], bytes: &[u8], output: &mut [u8]) -> FeedR
     let mut s = state;
     let mut at = 0;
     while at < bytes.len() {
-        let part = open_part(s);
         let result = slice_call(s, grid, &bytes[at..]);
         let count = result.count;
         if count == 0 {
@@ -91,7 +84,7 @@ fn feed(state: State, grid: &mut [u8], bytes: &[u8], output: &mut [u8]) -> FeedR
         let next = result.state;
         s = next;
         let answer = result.answer;
-        if !send_complete(answer, part, s, grid, output) {
+        if !send_complete(answer, s, grid, output) {
             return FeedResult {
                 state: s,
                 goes_on: false,

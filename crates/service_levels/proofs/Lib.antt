@@ -1,3 +1,2 @@
 -- The laws of counts, and the proofs of the functions beside them.
-pub mod Laws
 pub mod Counting

@@ -1,3 +1,3 @@
--- 01's section "Services", the ones on grids and clocks. Assumes nothing.
+-- 01's section "Services", levels of meshes, and counts. Assumes nothing.
 pub mod Meshes
 pub mod Returned

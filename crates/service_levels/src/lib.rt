@@ -1,4 +1,4 @@
-// Layer 3, grids: levels of meshes, and how many are at or above a level.
+// Layer 3, levels: levels of meshes, and how many are at or above a level.
 // Every function answers for every value of its parameters, by an equation with a definition of specs/.
 
 pub mod result; // what the services answer

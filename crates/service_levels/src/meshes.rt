@@ -1,5 +1,5 @@
 // The level of a mesh, and how many meshes are at or above a level.
-use crate::result::LevelResult;
+use crate::result::MeshResult;
 use text::payload::are_payload_bytes;
 ghost use mathlib.Core.Path.{_≡_};
 ghost use Prim.Native.Nat.{_*_, _≤_};
@@ -9,23 +9,23 @@ ghost use Rattle.service_levels.specs.Returned.{answerOf};
 
 // The level of a mesh, 1 to 40,000: the odd number is in the high four bits.
 // Notice 49, 4(1)(1-1)(d)(ウ)
-pub fn mesh_level(grid: &[u8], mesh: u32) -> LevelResult
+pub fn mesh_level(grid: &[u8], mesh: u32) -> MeshResult
     ensures { λ r. ⌜ answerOf r ≡ meshLevel (now (grid .entry)) mesh ⌝ }
 {
     if grid.len() != 20000 {
-        return LevelResult::Refused(42);
+        return MeshResult::Refused(42);
     }
     if !are_payload_bytes(1, grid) {
-        return LevelResult::Refused(43);
+        return MeshResult::Refused(43);
     }
     if (mesh == 0) | (40000 < mesh) {
-        return LevelResult::Refused(41);
+        return MeshResult::Refused(41);
     }
     let b = grid[((mesh - 1) / 2) as usize];
     if mesh % 2 == 1 {
-        return LevelResult::Value((b / 16) as u32);
+        return MeshResult::Value((b / 16) as u32);
     }
-    LevelResult::Value((b % 16) as u32)
+    MeshResult::Value((b % 16) as u32)
 }
 
 // How many meshes are at or above a level. The loop has no way out, so that the compiler can take
@@ -45,17 +45,17 @@ fn count_from(grid: &[u8], level: u8) -> u32
 }
 
 // How many of the 40,000 meshes are at or above a level, 0 to 14. Notice 49, 5(3)(3-1)
-pub fn meshes_from(grid: &[u8], level: u8) -> LevelResult
+pub fn meshes_from(grid: &[u8], level: u8) -> MeshResult
     ensures { λ r. ⌜ answerOf r ≡ meshesFrom (now (grid .entry)) level ⌝ }
 {
     if grid.len() != 20000 {
-        return LevelResult::Refused(42);
+        return MeshResult::Refused(42);
     }
     if !are_payload_bytes(1, grid) {
-        return LevelResult::Refused(43);
+        return MeshResult::Refused(43);
     }
     if 14 < level {
-        return LevelResult::Refused(41);
+        return MeshResult::Refused(41);
     }
-    LevelResult::Value(count_from(grid, level))
+    MeshResult::Value(count_from(grid, level))
 }

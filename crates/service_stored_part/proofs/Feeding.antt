@@ -12,7 +12,7 @@ use Rattle.receiver_spec.specs.Receiver.{step}
 use Rattle.receiver_spec.specs.Calls.{CallOutcome, feed, sliceCall, ask, number, spread, answersOf, stateAfter, gridAfter}
 use Rattle.receiver_spec.specs.Demand3.{SliceTaken}
 use Rattle.general_laws.proofs.Tests.{by-if}
-use Rattle.receiver_spec.proofs.Laws.{Sound, fresh-sound, steps-sound, not-refused, slice-taken, answers-append, state-append, grid-append, answers-long}
+use Rattle.receiver_spec.proofs.Laws.{PossibleOnGrid, fresh-sound, steps-sound, not-refused, slice-taken, answers-append, state-append, grid-append, answers-long}
 use Rattle.receiver_state.specs.Meaning.{stateOf, numberOf}
 use Rattle.receiver_state.specs.declared.state.State.{State}
 use Rattle.receiver_state.specs.declared.answer.Answer.{Answer}
@@ -27,14 +27,14 @@ abbrev pub emptyGrid : List ℕ
 emptyGrid = Rattle.receiver_spec.specs.State.emptyGrid
 
 -- a call that is not refused takes a byte at least, where there is one
-some-taken : (s : Rattle.receiver_spec.specs.State.State) (g bytes : List ℕ) → Sound s g → 1 ≤ length bytes → 1 ≤ sliceCall s g bytes .count
+some-taken : (s : Rattle.receiver_spec.specs.State.State) (g bytes : List ℕ) → PossibleOnGrid s g → 1 ≤ length bytes → 1 ≤ sliceCall s g bytes .count
 unfolding sliceCall feed
 some-taken s g [] h l = absurd (omega arith)
 some-taken s g (b ∷ bytes) h l =
     rw (not-refused s g (feed s g (b ∷ bytes)) (h .possible) (h .long))
     (by-if (λ (r : CallOutcome). 1 ≤ r .count) (eqb (step s g b .answer) 0) (λ _. omega arith) (λ _. omega arith))
 
-call-taken : (s : Rattle.receiver_spec.specs.State.State) (g bytes : List ℕ) → Sound s g → SliceTaken s g bytes (sliceCall s g bytes)
+call-taken : (s : Rattle.receiver_spec.specs.State.State) (g bytes : List ℕ) → PossibleOnGrid s g → SliceTaken s g bytes (sliceCall s g bytes)
 unfolding ask
 call-taken s g bytes h = slice-taken s g bytes (h .possible) (h .long)
 
@@ -52,7 +52,7 @@ unfolding replyOf numberOf
 number-same Quiet = refl
 number-same Begun = refl
 number-same Taken = refl
-number-same Complete = refl
+number-same (Complete part) = refl
 number-same (Dropped n) = refl
 number-same (Refused n) = refl
 
@@ -84,15 +84,15 @@ module _ {bytes : List ℕ} {s : State} {g : List ℕ} {answer at : ℕ} (h : Fe
   e : returned result left ≡ sliceCall (stateOf s) g rest
   e = called ∙ ap (sliceCall (stateOf s) g) (take-all (length bytes - at) rest (omega (arith, length-drop at bytes)))
 
-  sound : Sound (stateOf s) g
-  sound = rw (h .state, h .grid) (steps-sound before fresh emptyGrid fresh-sound)
+  possible-on-grid : PossibleOnGrid (stateOf s) g
+  possible-on-grid = rw (h .state, h .grid) (steps-sound before fresh emptyGrid fresh-sound)
 
   taken : SliceTaken (stateOf s) g rest (returned result left)
-  taken = rw e (call-taken (stateOf s) g rest sound)
+  taken = rw e (call-taken (stateOf s) g rest possible-on-grid)
 
   pub some : 1 ≤ result .count
   unfolding returned
-  some = subst (λ (r : CallOutcome). 1 ≤ r .count) (sym e) (some-taken (stateOf s) g rest sound (omega (arith, length-drop at bytes)))
+  some = subst (λ (r : CallOutcome). 1 ≤ r .count) (sym e) (some-taken (stateOf s) g rest possible-on-grid (omega (arith, length-drop at bytes)))
 
   pub within : result .count ≤ length bytes - at
   unfolding returned

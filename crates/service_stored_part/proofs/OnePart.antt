@@ -2,7 +2,7 @@
 use mathlib.Core.Path.{_≡_, refl, sym, ap, ap₂, _∙_, subst}
 use mathlib.Core.Logic.{_↔_}
 use mathlib.Core.Bool.{Bool, true, false, _&&_}
-use mathlib.Core.List.{List, [], _∷_, _++_, append-assoc, map}
+use mathlib.Core.List.{List, [], _∷_, _++_, append-assoc, map, append-nil}
 use Prim.Native.Nat.{ℕ, suc, _+_, _-_, _≤_, _<_}
 use native.Mathlib.Omega.{arith}
 use lib.Dec.{eqb}
@@ -22,7 +22,7 @@ use Rattle.text_laws.proofs.KindTable.{kind-part, text-back, start-is-kind, end
 use Rattle.text_laws.proofs.Parts.{part-length}
 use Rattle.text_laws.proofs.Deciding.{part-decided}
 use Rattle.receiver_spec.specs.State.{State, fresh, emptyGrid}
-use Rattle.receiver_spec.specs.Calls.{byte, onGrid, singly, answersOf, stateAfter}
+use Rattle.receiver_spec.specs.Calls.{byte, onGrid, singly, answersOf, stateAfter, Call}
 use Rattle.receiver_spec.specs.Demand3.{EndsUndamaged}
 use Rattle.receiver_spec.proofs.Laws.{calls-stepped, singly-taken, demand-3}
 
@@ -93,8 +93,11 @@ expected-length-right before part bytes u e = ap₂ partLength kind noecho ∙ s
         ap partOf (ap (λ (t : List ℕ). t ! (length t - 33)) ends ∙ from-end front (textOf (u .part .end)) (omega (arith, text-length (u .part .end))) ∙ kind-in-text (u .part .end) long)
         ∙ end-part part u
 
+    ones : List Call
+    ones = map (λ b. onGrid (byte b)) bytes
+
     header : stateAfter fresh emptyGrid bytes .header ≡ headerOf (u .part .start)
-    header = ap (λ (s : State). s .header) (sym (state-behind bytes)) ∙ demand-3 (map (λ b. onGrid (byte b)) bytes) .held before part u (singly-taken bytes ∙ e) .0
+    header = ap (λ (s : State). s .header) (sym (state-behind bytes)) ∙ demand-3 ones .held ones [] (sym (append-nil ones)) before part u (singly-taken bytes ∙ e) .0
 
     noecho : stateAfter fresh emptyGrid bytes .header .noecho ≡ noEchoOf (u .part .start ! 4)
     noecho = ap (λ (h : Header). h .noecho) header

@@ -29,7 +29,7 @@ pub use writer::part::write_part;
 pub use service_clock::steps::clock_steps;
 pub use service_levels::meshes::mesh_level;
 pub use service_levels::meshes::meshes_from;
-pub use service_levels::result::LevelResult;
+pub use service_levels::result::MeshResult;
 pub use service_overlay::grids::OverlayResult;
 pub use service_overlay::grids::overlay;
 

@@ -176,14 +176,14 @@ start-at bytes u =
     sym (ap (λ t. take 32 (drop 5 t)) (u .framed)
     ∙ first-block (u .part .start) (textsOf (u .part .datas) ++ textOf (u .part .end)) 32 (start-long (u .part) (u .rules)))
 
+pub start-byte : (bytes : List ℕ) (u : UndamagedPart bytes) (i : ℕ) → i < 32 → u .part .start ! i ≡ bytes ! (5 + i)
+start-byte bytes u i l = ap (λ t. t ! i) (start-at bytes u) ∙ getD-take 32 (drop 5 bytes) i 0 l ∙ getD-drop 5 bytes i 0
+
 -- A part's length is settled by its start text: by its kind, byte 7 of the part, and its status 1, byte 9
 pub part-length-settled : (bytes : List ℕ) → UndamagedPart bytes → length bytes ≡ partLength (partOf (bytes ! 7)) (noEchoOf (bytes ! 9))
 part-length-settled bytes u =
     ap length (u .framed) ∙ part-length (u .part) (u .rules)
-    ∙ ap₂ (λ k s. partLength (partOf k) (noEchoOf s)) (at 2 (omega arith)) (at 4 (omega arith))
-  where
-    at : (i : ℕ) → i < 32 → u .part .start ! i ≡ bytes ! (5 + i)
-    at i l = ap (λ t. t ! i) (start-at bytes u) ∙ getD-take 32 (drop 5 bytes) i 0 l ∙ getD-drop 5 bytes i 0
+    ∙ ap₂ (λ k s. partLength (partOf k) (noEchoOf s)) (start-byte bytes u 2 (omega arith)) (start-byte bytes u 4 (omega arith))
 
 -- Two undamaged parts that begin with the same start text have their texts at the same places:
 -- text by text, they have the same lengths

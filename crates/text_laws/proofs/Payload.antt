@@ -1,12 +1,13 @@
 -- Payload bytes and meshes. Assumes nothing.
-use mathlib.Core.Path.{_≡_, refl}
+use mathlib.Core.Path.{_≡_, refl, ap}
+use mathlib.Core.List.{List, [], _∷_}
 use mathlib.Core.Logic.{_⊎_, inl, inr, ⊎-elim}
 use mathlib.Core.Bool.{true, not, _&&_, _||_}
 use Prim.Native.Nat.{ℕ, _+_, _*_, _-_, _/_, _%_, _≤_, _<_}
 use native.Mathlib.Omega.{arith}
 use lib.Dec.{eqb, leb}
 use borrow.Author.Tests.{eqb-true, eqb-false, leb-true}
-use Rattle.general_laws.specs.Bytes.{bit}
+use Rattle.general_laws.specs.Bytes.{bit, every}
 use Rattle.text.specs.DataBlock.{oddLevel, evenLevel, oddMesh, evenMesh, isIntensityByte, isTopByte, isQualityByte, isPayloadByte}
 use Rattle.general_laws.proofs.Computed.{same-tests}
 use Rattle.general_laws.proofs.Tests.{by-test, never, and-split, or-split}
@@ -54,3 +55,9 @@ text-of-mesh m h = (
 pub grid-byte : (k i : ℕ) → 1 ≤ k → ((oddMesh k i - 1) / 2 ≡ 2000 * (k - 1) + i) × ((evenMesh k i - 1) / 2 ≡ 2000 * (k - 1) + i)
 unfolding oddMesh evenMesh
 grid-byte k i h = (omega arith, omega arith)
+
+-- the payload bytes of part 1 are those of an intensity grid
+pub intensity-is-payload : (grid : List ℕ) → every isIntensityByte grid ≡ every (isPayloadByte 1) grid
+unfolding every isPayloadByte
+intensity-is-payload [] = refl
+intensity-is-payload (b ∷ grid) = ap (λ t. isIntensityByte b && t) (intensity-is-payload grid)

@@ -6,14 +6,14 @@
 use libc::STDIN_FILENO;
 use libc::STDOUT_FILENO;
 use service_levels::meshes::meshes_from;
-use service_levels::result::LevelResult;
+use service_levels::result::MeshResult;
 use service_overlay::grids::OverlayResult;
 use service_overlay::grids::overlay;
 
-fn number_of(found: LevelResult) -> u64 {
+fn number_of(found: MeshResult) -> u64 {
     match found {
-        LevelResult::Value(n) => n as u64,
-        LevelResult::Refused(row) => row as u64,
+        MeshResult::Value(n) => n as u64,
+        MeshResult::Refused(row) => row as u64,
     }
 }
 

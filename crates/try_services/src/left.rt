@@ -48,15 +48,15 @@ fn after(taken: usize, answer: u8, s: State) {
     }
 }
 
-fn along(grid: &mut [u8], bytes: &[u8]) {
+fn feed_part(grid: &mut [u8], bytes: &[u8]) {
     let mut s = fresh();
     let mut i = 0;
     while i < bytes.len() {
-        let got = byte_call(s, grid, bytes[i]);
+        let result = byte_call(s, grid, bytes[i]);
         i += 1;
-        let next = got.state;
+        let next = result.state;
         s = next;
-        let answer = got.answer;
+        let answer = result.answer;
         after(i, number_of(answer), s);
     }
 }
@@ -66,5 +66,5 @@ pub fn lines() {
     let n = make(2, true, &mut output);
     let mut grid = [0u8; 20000];
     line(0, 0, fresh());
-    along(&mut grid, &output[..n]);
+    feed_part(&mut grid, &output[..n]);
 }

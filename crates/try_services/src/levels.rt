@@ -7,18 +7,18 @@ use crate::samples::fill_grid;
 use crate::sums::about;
 use service_levels::meshes::mesh_level;
 use service_levels::meshes::meshes_from;
-use service_levels::result::LevelResult;
+use service_levels::result::MeshResult;
 
 // The ends of the grid and its middle, and numbers that no mesh has
 const MESHES: [u32; 11] = [0, 1, 2, 3, 4, 19999, 20000, 39999, 40000, 40001, 4294967295];
 
-fn end_with(name: &[u8], found: LevelResult) {
+fn end_with(name: &[u8], found: MeshResult) {
     match found {
-        LevelResult::Value(n) => {
+        MeshResult::Value(n) => {
             word(name);
             number(n as u64);
         }
-        LevelResult::Refused(row) => refused(row),
+        MeshResult::Refused(row) => refused(row),
     }
     end_line();
 }

@@ -28,8 +28,8 @@ fn line(first: &[u8], second: &[u8], third: &mut [u8]) {
     number(first.len() as u64);
     number(second.len() as u64);
     number(third.len() as u64);
-    let laid = overlay(first, second, third);
-    match laid {
+    let result = overlay(first, second, third);
+    match result {
         OverlayResult::Done => word(b" laid"),
         OverlayResult::Refused(row) => refused(row),
     }
@@ -49,7 +49,7 @@ fn pairs(first: &[u8], second: &[u8], zeros: &[u8], third: &mut [u8]) {
     line(zeros, second, third);
 }
 
-fn laid() {
+fn shown() {
     let mut first = [0u8; 20000];
     fill_grid(true, &mut first);
     let mut second = [0u8; 20000];
@@ -101,7 +101,7 @@ fn order() {
 }
 
 pub fn lines() {
-    laid();
+    shown();
     length(19999);
     length(20001);
     length(0);

@@ -46,8 +46,8 @@ pub fn make(part: u8, echoes: bool, output: &mut [u8]) -> usize
     let mut payload = [0u8; 20000];
     fill_payload(part, echoes, &mut payload);
     let size = payload_length(part);
-    let wrote = write_part(part, header(), MODES, &payload[..size], output);
-    match wrote {
+    let result = write_part(part, header(), MODES, &payload[..size], output);
+    match result {
         WriteResult::Bytes(long) => within(long, output.len()),
         WriteResult::Refused(_) => 0,
     }

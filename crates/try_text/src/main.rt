@@ -29,8 +29,8 @@ fn request(head: &[u8], space: &mut [u8])
     requires { ⌜ length (now space) ≡ 65536 ⌝ }
 {
     let long = two_at(head, 1) as usize;
-    let there = io::read_full(STDIN_FILENO, &mut space[..long]);
-    line(byte_at(head, 0), &space[..there]);
+    let read = io::read_full(STDIN_FILENO, &mut space[..long]);
+    line(byte_at(head, 0), &space[..read]);
 }
 
 // A proved loop has to end, and nothing says that the input does: the loop counts its turns down,

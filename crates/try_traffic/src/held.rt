@@ -3,6 +3,7 @@ use crate::out::list;
 use crate::out::number;
 use crate::out::spaced;
 use crate::out::word;
+use receiver_state::answer::Answer;
 use receiver_state::state::State;
 use text::header::Header;
 ghost use Prim.Native.Nat.{_≤_, _<_};
@@ -86,13 +87,15 @@ fn header_line(out: &mut [u8], used: usize, part: u8, s: State) -> usize
 }
 
 // At answer 3 the receiver holds a part
-pub fn part_lines(out: &mut [u8], used: usize, answer: u8, part: u8, s: State, grid: &[u8]) -> usize
+pub fn part_lines(out: &mut [u8], used: usize, answer: Answer, s: State, grid: &[u8]) -> usize
     requires { ⌜ used ≤ length (now out) ⌝ }
     ensures { λ r. ⌜ r ≤ length (now (out .entry)) ⌝ }
 {
-    if answer != 3 {
-        return used;
+    match answer {
+        Answer::Complete(part) => {
+            let headed = header_line(out, used, part, s);
+            grid_line(out, headed, grid)
+        }
+        _ => used,
     }
-    let headed = header_line(out, used, part, s);
-    grid_line(out, headed, grid)
 }

@@ -42,12 +42,6 @@ fn more(total: u64, count: usize) -> u64 {
     u64::MAX
 }
 
-// At answer 3 no part is open any more: its number is that of the state before the call
-fn open_part(s: State) -> u8 {
-    let f = s.frame;
-    f.part
-}
-
 // The line of an answer other than 0
 fn answer_line(out: &mut [u8], used: usize, call: &[u8], total: u64, answer: u8) -> usize
     requires { ⌜ used ≤ length (now out) ⌝ }
@@ -78,7 +72,6 @@ fn by_bytes(
     let mut waiting = used;
     let mut i = 0;
     while i < bytes.len() {
-        let part = open_part(s);
         let result = byte_call(s, grid, bytes[i]);
         i += 1;
         let next = result.state;
@@ -86,7 +79,7 @@ fn by_bytes(
         let answer = result.answer;
         let n = number_of(answer);
         let lined = answer_line(out, waiting, b"byte", more(total, i), n);
-        waiting = part_lines(out, lined, n, part, s, grid);
+        waiting = part_lines(out, lined, answer, s, grid);
     }
     ByteCallsResult {
         state: s,
@@ -108,7 +101,6 @@ fn both(
 {
     let before = states.sliced;
     let single = states.single;
-    let part = open_part(before);
     let result = slice_call(before, grid, bytes);
     let count = result.count;
     let byte_calls = by_bytes(single, states.total, other, &bytes[..count], out, used);
@@ -118,7 +110,7 @@ fn both(
     let n = number_of(answer);
     let total = more(states.total, count);
     let lined = answer_line(out, byte_calls.used, b"slice", total, n);
-    let waiting = part_lines(out, lined, n, part, sliced, grid);
+    let waiting = part_lines(out, lined, answer, sliced, grid);
     BothResult {
         sliced,
         single: after,

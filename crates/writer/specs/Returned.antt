@@ -1,13 +1,13 @@
 -- What a call of the code returned, in the terms of `writer_spec`'s definition. Assumes nothing.
 use Prim.Native.Nat.{ℕ}
 use mathlib.Core.List.{List}
-use Rattle.writer_spec.specs.Written.{WriteAnswer, wrote, refused, WriteOutcome}
+use Rattle.writer_spec.specs.Written.{WriteAnswer, bytesWritten, refused, WriteOutcome}
 use Rattle.writer.specs.declared.part.WriteResult.{WriteResult}
 use Rattle.writer.specs.declared.part.WriteResult.the-variants.{Bytes, Refused}
 
 -- 01's numbers: the length written, or the row of a refusal
 unfoldable pub answerOf : WriteResult → WriteAnswer
-answerOf (Bytes n) = wrote n
+answerOf (Bytes n) = bytesWritten n
 answerOf (Refused n) = refused n
 
 -- a call's result, with the output at its exit

@@ -2,7 +2,7 @@
 use mathlib.Core.Path.{_≡_, refl, sym, ap, ap₂, _∙_, subst}
 use mathlib.Core.Logic.{_⊎_, inl, inr}
 use mathlib.Core.Bool.{Bool, true, false, not, _&&_}
-use mathlib.Core.List.{List, [], _∷_, _++_, map, append-assoc}
+use mathlib.Core.List.{List, [], _∷_, _++_, map, append-assoc, append-nil}
 use Prim.Native.Nat.{ℕ, suc, _+_, _*_, _-_, _≤_}
 use native.Mathlib.Nat.{zero-add, mul-le-mul-right}
 use native.Mathlib.Omega.{arith}
@@ -24,7 +24,7 @@ use Rattle.text_laws.proofs.Blocks.{part-keeps}
 use Rattle.text_laws.proofs.Parts.{part-length, payload-fits}
 use Rattle.receiver_spec.specs.Calls.{Call, onGrid, byte, received, singly}
 use Rattle.receiver_spec.proofs.Laws.{singly-taken, demand-3, not-before}
-use Rattle.writer_spec.specs.Written.{writesNoEcho, blockOf, startContents, endContents, dataBlocks, writtenPart, isPayload, WriteOutcome, wrote, writes}
+use Rattle.writer_spec.specs.Written.{writesNoEcho, blockOf, startContents, endContents, dataBlocks, writtenPart, isPayload, WriteOutcome, bytesWritten, writes}
 use Rattle.writer_spec.specs.Demand2.{Accepted, written, writtenHeader, ReadsBack}
 use Rattle.writer_spec.proofs.RulesKept.{OneToThree, one, two, three, part-is, kind-edges, picture, top-mode, mode-back, start-kept, start-header, status-back, end-kept, end-modes}
 use Rattle.writer_spec.proofs.DataBlocks.{data-order, data-count, data-payloads}
@@ -45,10 +45,10 @@ unfolding every zeros
 zeros-before [] n h = ap (λ k. replicate k 0) (sym (zero-add n))
 zeros-before (x ∷ xs) n h =
     let (a, b) = and-split (eqb x 0) (every (λ b. eqb b 0) xs) h in
-    ap₂ (λ y ys. y ∷ ys) (eqb-true x 0 a) (zeros-before xs n b) ∙ ap (λ k. replicate k 0) (far (length xs) n)
+    ap₂ (λ y ys. y ∷ ys) (eqb-true x 0 a) (zeros-before xs n b) ∙ ap (λ k. replicate k 0) (suc-add (length xs) n)
   where
-    far : (k n : ℕ) → suc (k + n) ≡ suc k + n
-    far k n = omega arith
+    suc-add : (k n : ℕ) → suc (k + n) ≡ suc k + n
+    suc-add k n = omega arith
 
 all-zeros : (xs : List ℕ) → length xs ≤ gridLength → every (λ b. eqb b 0) xs ≡ true → xs ++ zeros (gridLength - length xs) ≡ zeros gridLength
 all-zeros xs l h = zeros-before xs (gridLength - length xs) h ∙ ap zeros (rest l)
@@ -104,9 +104,9 @@ module _ (p : ℕ) (h : WriterHeader) (modes payload : List ℕ) (t : Accepted p
   whose : startPart start ≡ p
   whose = kind-edges is .2
 
-  silent : noEchoOf (start ! 4) ≡ e
+  no-echo-read : noEchoOf (start ! 4) ≡ e
   unfolding startContents
-  silent = status-back e
+  no-echo-read = status-back e
 
   radars-back : radarsOf start ≡ h .radars
   unfolding headerOf
@@ -126,7 +126,7 @@ module _ (p : ℕ) (h : WriterHeader) (modes payload : List ℕ) (t : Accepted p
       part-keeps this
       (record {
         start = start-kept p h modes payload t e;
-        count = data-count p (h .picture) 1 (dataTexts p e) payload ∙ ap₂ dataTexts (sym whose) (sym silent);
+        count = data-count p (h .picture) 1 (dataTexts p e) payload ∙ ap₂ dataTexts (sym whose) (sym no-echo-read);
         order = subst (λ x. inOrder (h .picture) x 1 datas ≡ true) (sym whose) ordered;
         end = subst (λ r. isEndBlock r end ≡ true) (sym radars-back) (end-kept p h modes payload t);
         endPicture = refl;
@@ -142,7 +142,7 @@ module _ (p : ℕ) (h : WriterHeader) (modes payload : List ℕ) (t : Accepted p
 
   pub long : length (written p h modes payload) ≡ partLength p e
   long =
-      ap (λ (x : Part). length (partBytes x)) is-this ∙ part-length this this-kept ∙ ap₂ partLength whose silent
+      ap (λ (x : Part). length (partBytes x)) is-this ∙ part-length this this-kept ∙ ap₂ partLength whose no-echo-read
 
   -- ---- what is held
 
@@ -155,10 +155,10 @@ module _ (p : ℕ) (h : WriterHeader) (modes payload : List ℕ) (t : Accepted p
   -- all data texts are there, or there are none and the payload is all zeros
   which : (dataTexts p e ≡ dataTexts p false) ⊎ ((dataTexts p e ≡ 0) × (every (λ b. eqb b 0) payload ≡ true))
   unfolding writesNoEcho dataTexts
-  which = by-test (not (eqb p 3) && every (λ b. eqb b 0) payload) silence (λ f. inl (ap (dataTexts p) f))
+  which = by-test (not (eqb p 3) && every (λ b. eqb b 0) payload) no-echo-no-data (λ f. inl (ap (dataTexts p) f))
     where
-      silence : not (eqb p 3) && every (λ b. eqb b 0) payload ≡ true → (dataTexts p e ≡ dataTexts p false) ⊎ ((dataTexts p e ≡ 0) × (every (λ b. eqb b 0) payload ≡ true))
-      silence s =
+      no-echo-no-data : not (eqb p 3) && every (λ b. eqb b 0) payload ≡ true → (dataTexts p e ≡ dataTexts p false) ⊎ ((dataTexts p e ≡ 0) × (every (λ b. eqb b 0) payload ≡ true))
+      no-echo-no-data s =
           let (other, allZeroData) = and-split (not (eqb p 3)) (every (λ b. eqb b 0) payload) s in
           inr (ap (dataTexts p) s ∙ no-texts p (not-true (eqb p 3) other), allZeroData)
 
@@ -184,7 +184,7 @@ module _ (p : ℕ) (h : WriterHeader) (modes payload : List ℕ) (t : Accepted p
   anywhere calls others taken =
       let bytes = written p h modes payload in
       let d = demand-3 calls in
-      let (held-header, held-modes, held-grid) = d .held others bytes undamaged taken in
+      let (held-header, held-modes, held-grid) = d .held calls [] (sym (append-nil calls)) others bytes undamaged taken in
       let front = take (length bytes - 1) bytes in
       let z = getD bytes (length bytes - 1) 0 in
       let some : 1 ≤ length bytes = omega (arith, long, some-length is e) in
@@ -199,14 +199,14 @@ module _ (p : ℕ) (h : WriterHeader) (modes payload : List ℕ) (t : Accepted p
       )
 
   placed : (output : List ℕ) → length (written p h modes payload) ≤ length output
-      → writes p h modes payload output ≡ record { answer = wrote (length (written p h modes payload)); output = written p h modes payload ++ drop (length (written p h modes payload)) output }
+      → writes p h modes payload output ≡ record { answer = bytesWritten (length (written p h modes payload)); output = written p h modes payload ++ drop (length (written p h modes payload)) output }
   unfolding writes
   placed output room =
       let fits : ltb (length output) (partLength p (writesNoEcho p payload)) ≡ false = le-ltb (length output) (partLength p (writesNoEcho p payload)) (omega (arith, long, room)) in
       simp (t .part, t .input, t .allowed, fits) (ap placedAs (sym long))
     where
       placedAs : ℕ → WriteOutcome
-      placedAs n = record { answer = wrote n; output = written p h modes payload ++ drop n output }
+      placedAs n = record { answer = bytesWritten n; output = written p h modes payload ++ drop n output }
 
   pub reads-back : ReadsBack p h modes payload
   reads-back =

@@ -15,7 +15,7 @@ use Rattle.text.specs.StartBlock.{noEchoOf, modeByte, clockBytes, radarsOf, hea
 use Rattle.text.specs.EndBlock.{modesOf}
 use Rattle.text.specs.Part.{Part, textsOf, partBytes, dataTextsAfter, isPart, UndamagedPart, payloadsOf, zeros, partModes}
 use Rattle.general_laws.proofs.Places.{places}
-use Rattle.general_laws.proofs.Lists.{far}
+use Rattle.general_laws.proofs.Lists.{suc-add}
 use Rattle.general_laws.proofs.Tests.{by-test, and-split, neither}
 use Rattle.text_laws.proofs.KindTable.{by-part, no-texts}
 use Rattle.text_laws.proofs.Framing.{text-length}
@@ -52,7 +52,7 @@ map-place f n (suc m) zero h = ap f (first n)
   where
     first : (n : ℕ) → n ≡ n + 0
     first n = omega arith
-map-place f n (suc m) (suc i) h = map-place f (suc n) m i (omega arith) ∙ ap f (far n i)
+map-place f n (suc m) (suc i) h = map-place f (suc n) m i (omega arith) ∙ ap f (suc-add n i)
 
 map-same : (f g : ℕ → ℕ) (js : List ℕ) → every (λ j. eqb (f j) (g j)) js ≡ true → map f js ≡ map g js
 unfolding every
@@ -79,8 +79,8 @@ module _ (part : Part) (h : isPart part ≡ true) where
   -- ---- what is written
 
   -- with NO ECHO, intensity and top have no payload but zeros
-  silent : eqb (heldPart part) 3 ≡ false → noEchoOf (part .start ! 4) ≡ true → every (λ b. eqb b 0) (heldPayload part) ≡ true
-  silent e t =
+  no-echo-read : eqb (heldPart part) 3 ≡ false → noEchoOf (part .start ! 4) ≡ true → every (λ b. eqb b 0) (heldPayload part) ≡ true
+  no-echo-read e t =
       let none : length (part .datas) ≡ 0 = rules .count ∙ ap (dataTexts (heldPart part)) t ∙ no-texts (heldPart part) e in
       let zero : heldPayload part ≡ zeros (payloadLength (heldPart part) - 0) =
       held-payload part h ∙ ap (λ t. t ++ zeros (payloadLength (heldPart part) - length t)) (no-payloads (part .datas) none) in
@@ -91,7 +91,7 @@ module _ (part : Part) (h : isPart part ≡ true) where
   unfolding writesNoEcho
   echo-again c =
       by-test (eqb (heldPart part) 3) (λ e. rw e (sym (and-false (noEchoOf (part .start ! 4)))))
-      (λ e. by-test (noEchoOf (part .start ! 4)) (λ t. rw (e, t, silent e t))
+      (λ e. by-test (noEchoOf (part .start ! 4)) (λ t. rw (e, t, no-echo-read e t))
       (λ t. rw (e, t) (rw (e, t, some-texts (heldPart part) (is-part-number part h), and-true) at c)))
 
   start-same : hasAllZeroData part ≡ false → rewrittenPart part .start ≡ plainPart part .start

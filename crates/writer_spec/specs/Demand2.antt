@@ -17,7 +17,7 @@ use Rattle.text.specs.WriterInput.{writerHeaderOf, isWriterInput}
 use Rattle.text.specs.declared.header.Header.{Header}
 use Rattle.text.specs.declared.header.WriterHeader.{WriterHeader}
 use Rattle.receiver_spec.specs.Calls.{Call, received, singly}
-use Rattle.writer_spec.specs.Written.{writesNoEcho, statusByte, writtenPart, isPayload, wrote, writes}
+use Rattle.writer_spec.specs.Written.{writesNoEcho, statusByte, writtenPart, isPayload, bytesWritten, writes}
 
 -- What the writer takes: rows 31 to 33 do not refuse it, and header and modes have the lengths of the code's arrays
 pub record Accepted (p : ℕ) (h : WriterHeader) (modes payload : List ℕ) : Type 0 where
@@ -51,7 +51,7 @@ pub record ReadsBack (p : ℕ) (h : WriterHeader) (modes payload : List ℕ) : T
   pub long : length (written p h modes payload) ≡ partLength p (writesNoEcho p payload)
   -- the writer puts them at the front of every output that has room, says how many they are, and leaves what lies behind them
   pub placed : (output : List ℕ) → length (written p h modes payload) ≤ length output
-      → writes p h modes payload output ≡ record { answer = wrote (length (written p h modes payload)); output = written p h modes payload ++ drop (length (written p h modes payload)) output }
+      → writes p h modes payload output ≡ record { answer = bytesWritten (length (written p h modes payload)); output = written p h modes payload ++ drop (length (written p h modes payload)) output }
   -- a fresh receiver that is given them one by one answers complete at the last byte and not before
   pub last : singly (written p h modes payload) .said ! (length (written p h modes payload) - 1) ≡ 3
   pub before : (i : ℕ) → suc i < length (written p h modes payload) → singly (written p h modes payload) .said ! i ≢ 3

@@ -75,7 +75,7 @@ isPayload p payload = eqb (length payload) (payloadLength p) && every (isPayload
 
 -- What the writer answers: how many bytes it wrote, or a refusal (31 to 34)
 pub data WriteAnswer : Type 0 where
-  wrote : ℕ → WriteAnswer
+  bytesWritten : ℕ → WriteAnswer
   refused : ℕ → WriteAnswer
 
 -- with the output that it leaves
@@ -96,4 +96,4 @@ writes p h modes payload output =
     (cond (not (isWriterInput h modes)) (refuses 32 output)
     (cond (not (isPayload p payload)) (refuses 33 output)
     (cond (ltb (length output) long) (refuses 34 output)
-    (record { answer = wrote long; output = partBytes (writtenPart p h modes payload) ++ drop long output }))))
+    (record { answer = bytesWritten long; output = partBytes (writtenPart p h modes payload) ++ drop long output }))))

@@ -17,19 +17,19 @@ abbrev μ-loop : tie.MeasureT-loop
 add-at : tie.Need-add-at Inv-loop μ-loop
 add-at c =
     let call = c .before .before .before in
-    let turn = call .before .before .before .before .before in
-    omega (arith, turn .loop .inv .0, call .before .before .before .before .loop-test .taken, turn .before .before .before .before .good, count-behind (call .slice-call .result) _ _ _ (turn .before .before .before .before .args .bytes .now) (turn .loop .at) (call .slice-call .ensures .0))
+    let turn = call .before .before .before .before in
+    omega (arith, turn .loop .inv .0, call .before .before .before .loop-test .taken, turn .before .before .before .before .good, count-behind (call .slice-call .result) _ _ _ (turn .before .before .before .before .args .bytes .now) (turn .loop .at) (call .slice-call .ensures .0))
 
 loop-less : tie.Need-loop-less Inv-loop μ-loop
 loop-less c =
     let call = c .before .before .before .before .before .before .before .before .before .before in
-    let turn = call .before .before .before .before .before in
-    omega (arith, turn .loop .inv .0, call .before .before .before .before .loop-test .taken, c .before .before .before .before .before .before .before .if1 .left, count-behind (call .slice-call .result) _ _ _ (turn .before .before .before .before .args .bytes .now) (turn .loop .at) (call .slice-call .ensures .0))
+    let turn = call .before .before .before .before in
+    omega (arith, turn .loop .inv .0, call .before .before .before .loop-test .taken, c .before .before .before .before .before .before .before .if1 .left, count-behind (call .slice-call .result) _ _ _ (turn .before .before .before .before .args .bytes .now) (turn .loop .at) (call .slice-call .ensures .0))
 
 loop-again : tie.Need-loop-again Inv-loop μ-loop
 loop-again c =
     let call = c .before .before .before .before .before .before .before .before .before .before in
-    let turn = call .before .before .before .before .before in
+    let turn = call .before .before .before .before in
     search (needs, count-behind (call .slice-call .result) _ _ _ (turn .before .before .before .before .args .bytes .now) (turn .loop .at) (call .slice-call .ensures .0))
 
 pub feed-spec : {M : Type 1} → statement M
@@ -39,7 +39,6 @@ feed-spec =
     Inv-loop
     μ-loop
     (λ c. search needs)
-    (λ c κs. search needs)
     (λ c. search needs)
     (λ c. search needs)
     (λ c. search needs)

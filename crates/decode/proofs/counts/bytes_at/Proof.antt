@@ -6,7 +6,8 @@ use native.Mathlib.Omega.{arith}
 use lib.ListN.{length, drop}
 use borrow.Author.Needs.{needs}
 use Rattle.decode.specs.Count.{countOf}
-use Rattle.decode.proofs.Laws.{one-less, count-on, count-all}
+use Rattle.general_laws.proofs.Tests.{bool-byte-less}
+use Rattle.decode.proofs.Counting.{count-on, count-all}
 use Rattle.decode.proofs.counts.bytes_at.Statement.{statement}
 use Rattle.decode.proofs.counts.bytes_at.Tie as tie
 
@@ -17,14 +18,14 @@ abbrev μ-loop : tie.MeasureT-loop
 μ-loop bytes value count₀ i₀ count i = length bytes - i
 
 add-count : tie.Need-add-count Inv-loop μ-loop
-add-count c = simp one-less (omega arith)
+add-count c = simp bool-byte-less (omega arith)
 
 loop-again : tie.Need-loop-again Inv-loop μ-loop
 loop-again c =
     let l = c .before .before in
     let a = l .before .args in (
       omega arith,
-      simp one-less (omega arith),
+      simp bool-byte-less (omega arith),
       count-on (a .bytes .now) (a .value) (l .loop .i) (l .loop .count) (l .loop .inv .2) (omega arith),
     )
 

@@ -5,7 +5,8 @@ use native.Mathlib.Omega.{arith}
 use lib.ListN.{length, drop, drop-of-length-le}
 use borrow.Author.Needs.{needs}
 use Rattle.receiver_bytes_seen.specs.Behind.{seenAfter}
-use Rattle.receiver_bytes_seen.proofs.ManyBytes.{last-five, from-on}
+use Rattle.receiver_bytes_seen.proofs.ManyBytes.{last-five}
+use Rattle.general_laws.proofs.Lists.{from-on}
 use Rattle.receiver_bytes_seen.proofs.behind.seen_behind.Statement.{statement}
 use Rattle.receiver_bytes_seen.proofs.behind.seen_behind.Tie as tie
 

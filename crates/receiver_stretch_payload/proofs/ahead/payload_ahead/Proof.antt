@@ -66,15 +66,15 @@ tested l e h = ap (λ x. not x || not (eqb l gridLength)) (sym e) ∙ h
 returns : tie.Need-returns
 unfolding run
 returns c =
-    let paying = c .before in
-    let a = paying .before .before .before .before .args in
-    let zero = none (a .s) (a .grid .now) (a .bytes .now) (tested (length (a .grid .now)) (paying .is-in-payload .ensures) (c .if1 .taken)) in
+    let in-payload = c .before in
+    let a = in-payload .before .before .before .before .args in
+    let zero = none (a .s) (a .grid .now) (a .bytes .now) (tested (length (a .grid .now)) (in-payload .is-in-payload .ensures) (c .if1 .taken)) in
     sym (ap (λ n. run (a .s) (a .grid .now) (take n (a .bytes .now)) 0) zero)
 
 -- what is known past the test
 module _ (f : Frame) (l : ℕ) {p : Bool} (e : p ≡ isInPayload f) (h : (not p || not (eqb l gridLength)) ≡ false) where
-  paying : isInPayload f ≡ true
-  paying = sym e ∙ not-false _ (neither (not p) (not (eqb l gridLength)) h .0)
+  in-payload : isInPayload f ≡ true
+  in-payload = sym e ∙ not-false _ (neither (not p) (not (eqb l gridLength)) h .0)
 
   long : l ≡ 20000
   long = eqb-true l gridLength (not-false _ (neither (not p) (not (eqb l gridLength)) h .1))
@@ -84,7 +84,7 @@ sub-left c =
     let test = c .before .before in
     let a = test .before .before .before .before .before .args in
     let f = a .s .frame in
-    omega (arith, c .before .block-length .ensures, in-payload-has f (paying f (length (a .grid .now)) (test .before .is-in-payload .ensures) (test .if1 .left)) .high)
+    omega (arith, c .before .block-length .ensures, in-payload-has f (in-payload f (length (a .grid .now)) (test .before .is-in-payload .ensures) (test .if1 .left)) .high)
 
 slice-aggregate : tie.Need-slice-aggregate-payload-passed
 slice-aggregate c =
@@ -98,11 +98,11 @@ payload-passed-requires c κs =
     let test = least .before .before .before in
     let a = test .before .before .before .before .before .args in
     let f = a .s .frame in
-    let pays = paying f (length (a .grid .now)) (test .before .is-in-payload .ensures) (test .if1 .left) in
+    let in-payload-is = in-payload f (length (a .grid .now)) (test .before .is-in-payload .ensures) (test .if1 .left) in
     let n = least .least .result in (
-      pays,
+      in-payload-is,
       (
-        omega (arith, least .least .ensures, least .before .before .block-length .ensures, in-payload-has f pays .high, length-take-le n (a .bytes .now) (omega (arith, least .least .ensures))),
+        omega (arith, least .least .ensures, least .before .before .block-length .ensures, in-payload-has f in-payload-is .high, length-take-le n (a .bytes .now) (omega (arith, least .least .ensures))),
         long f (length (a .grid .now)) (test .before .is-in-payload .ensures) (test .if1 .left),
       ),
     )

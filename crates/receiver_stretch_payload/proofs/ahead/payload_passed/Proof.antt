@@ -11,7 +11,7 @@ use Rattle.text.specs.DataBlock.{isPayloadByte}
 use Rattle.general_laws.proofs.Lists.{put-fits}
 use Rattle.general_laws.proofs.Tests.{neither}
 use Rattle.text_laws.proofs.KindTable.{block-most}
-use Rattle.receiver_stretch_payload.proofs.InPayload.{in-payload-has, paid-on}
+use Rattle.receiver_stretch_payload.proofs.InPayload.{in-payload-has, payload-passed-on}
 use Rattle.receiver_stretch_payload.proofs.ahead.payload_passed.Statement.{statement}
 use Rattle.receiver_stretch_payload.proofs.ahead.payload_passed.Tie as tie
 
@@ -38,7 +38,7 @@ returns-2 c =
     let h = in-payload-has (a .s .frame) (start .pre .0) in
     let (five, rule) = neither (not (eqb (a .s .frame .count) 5)) (not (test .before .are-payload-bytes .result)) (test .if1 .left) in
     let fits = put-fits (a .grid .now) (base .payload-base .result) bytes (omega (arith, base .payload-base .ensures .1, start .pre .1 .0, start .pre .1 .1)) in
-    paid-on (a .s) h bytes (a .grid .now)
+    payload-passed-on (a .s) h bytes (a .grid .now)
     (ap (λ p. every (isPayloadByte p) bytes) (sym (part .part-of-kind .ensures)) ∙ sym (test .before .are-payload-bytes .ensures) ∙ not-false _ rule)
     (eqb-true _ _ (not-false _ five)) (start .pre .1 .0)
     (put .put .ensures ∙ fits ∙ ap (λ i. sets (a .grid .now) i bytes) (base .payload-base .ensures .0))

@@ -15,7 +15,7 @@ use Rattle.receiver_byte_call.proofs.Laws.{advanced-first}
 use Rattle.receiver_stretches.specs.Run.{passed, run}
 use Rattle.receiver_stretches.proofs.Laws.{passed-first}
 use Rattle.receiver_stretch_payload.specs.Ahead.{allowedPrefix}
-use Rattle.receiver_stretch_payload.proofs.InPayload.{in-payload-has, allowed-on, allowed-stop, allowed-end, paid-byte}
+use Rattle.receiver_stretch_payload.proofs.InPayload.{in-payload-has, allowed-on, allowed-stop, allowed-end, payload-byte-passed}
 use Rattle.receiver_stretch_payload.proofs.ahead.payload_run.Statement.{statement}
 use Rattle.receiver_stretch_payload.proofs.ahead.payload_run.Tie as tie
 
@@ -102,7 +102,7 @@ loop-again c =
     let good = ap (λ p. isPayloadByte p b) (sym (l .before .before .part-of-kind .ensures)) ∙ sym (test .before .is-payload-byte .ensures) ∙ not-false _ (test .if1 .left) in
     let gridPlace : l .before .payload-base .result + i ≡ 2000 * (textNumber (s .frame .kind) - 1) + (s .frame .place + i - 3) =
     omega (arith, l .before .payload-base .ensures .0, h .low) in (
-      paid-byte s h (a .grid .now) bytes (l .loop .grid) (s .frame .place + i) (l .loop .check) (l .loop .seen) (l .loop .count) i (l .loop .inv .0) here
+      payload-byte-passed s h (a .grid .now) bytes (l .loop .grid) (s .frame .place + i) (l .loop .check) (l .loop .seen) (l .loop .count) i (l .loop .inv .0) here
           (omega (arith, h .low)) (omega (arith, start .pre .1 .0, here)) good
           ∙ rw (c .before .pushed .ensures, c .counted .ensures, gridPlace, onward (s .frame .place) i),
       (allowed-on _ bytes i (l .loop .inv .1 .0) here good, (omega (arith, here), length-set (l .loop .grid) _ _ ∙ l .loop .inv .1 .1 .1)),

@@ -9,7 +9,8 @@ use borrow.Author.Needs.{needs}
 use Rattle.receiver_state.specs.declared.state.State.{State}
 use Rattle.receiver_stretches.specs.declared.stretch.StretchResult.{StretchResult}
 use Rattle.receiver_stretches.specs.Run.{passed, run, Passes}
-use Rattle.receiver_stretches.proofs.Laws.{passed-count, passed-on, passed-after, taken-most}
+use Rattle.receiver_stretches.proofs.Laws.{passed-count, passed-on, passed-after}
+use Rattle.general_laws.proofs.Lists.{taken-most}
 use Rattle.receiver_stretch_start_end.specs.Ahead.{waitLength, waitedFor, Waited, textAhead, edgeAhead}
 use Rattle.receiver_stretch_start_end.proofs.ahead.edge_ahead.Statement.{statement}
 use Rattle.receiver_stretch_start_end.proofs.ahead.edge_ahead.Tie as tie
@@ -29,14 +30,14 @@ module _ (s : State) (bytes : List ℕ) {first second : StretchResult} (waited :
   behind : (g : List ℕ) → run here g (take (textAhead here (drop n bytes)) (drop n bytes)) 0 ≡ passed (second .state) g (second .at)
   behind g =
       sym
-      (subst₂ (λ (t : State) xs. passed (second .state) g (second .at) ≡ run t g (take (textAhead t xs) xs) 0) (waited .there) (e ∙ ap (λ i. drop i bytes) (waited .long)) (text g))
+      (subst₂ (λ (t : State) xs. passed (second .state) g (second .at) ≡ run t g (take (textAhead t xs) xs) 0) (waited .state-is) (e ∙ ap (λ i. drop i bytes) (waited .long)) (text g))
 
   all : (g : List ℕ) → passed (second .state) g (first .at + second .at) ≡ run s g (take (edgeAhead s bytes) bytes) 0
   unfolding edgeAhead
   all g =
       let m = textAhead here (drop n bytes) in
       let xs = take n bytes in
-      let front : run s g xs 0 ≡ passed here g (first .at) = sym (waited .runs g) ∙ ap (λ t. passed t g (first .at)) (waited .there) in
+      let front : run s g xs 0 ≡ passed here g (first .at) = sym (waited .runs g) ∙ ap (λ t. passed t g (first .at)) (waited .state-is) in
       sym
       (ap (λ ys. run s g ys 0) (take-add n m bytes)
       ∙ passed-on s g xs (take m (drop n bytes)) 0 front

@@ -38,7 +38,7 @@ returns-2 c g =
     let gap = kind .before .before in
     let a = gap .before .before .before .before .before .before .before .args in
     none-passed (a .s) (a .bytes .now) g
-    (no-end (a .s) (a .bytes .now) (gap .is-gap .ensures) (kind .kind-of .ensures) (due .if1 .left) (sum .block-check .ensures) (read .read-end .ensures) (c .if2 .taken))
+    (no-end (a .s) (a .bytes .now) (gap .is-gap .ensures) (kind .kind-of .ensures) (due .if1 .left) (sum .check-byte .ensures) (read .read-end .ensures) (c .if2 .taken))
 
 stretch-long : tie.Need-slice-aggregate-seen-behind
 stretch-long c =
@@ -57,7 +57,7 @@ returns-3 c =
     let known = gap .before .before .before .before .before .before in
     let start = known .before in
     let a = start .args in
-    end-on (a .s) (a .bytes .now) (gap .is-gap .ensures) (kind .kind-of .ensures) (due .if1 .left) (sum .block-check .ensures) (read .read-end .ensures) (test .if2 .left)
+    end-on (a .s) (a .bytes .now) (gap .is-gap .ensures) (kind .kind-of .ensures) (due .if1 .left) (sum .check-byte .ensures) (read .read-end .ensures) (test .if2 .left)
     (search (needs, start .good .0 .1 .1 .1 .1 .1 .0)) (start .pre .0) (start .pre .1) (λ j. omega (arith, known .shared-slice-known .given j)) (c .seen-behind .ensures)
 
 pub end-ahead-spec : {M : Type 1} → statement M

@@ -17,7 +17,7 @@ returns c g =
     let read = c .before .before .before .before in
     let sum = read .before in
     let a = sum .before .before .before .args in
-    none-passed (a .s) (a .bytes .now) g (no-start (a .s) (a .bytes .now) (sum .block-check .ensures) (read .read-start .ensures) (c .if1 .taken))
+    none-passed (a .s) (a .bytes .now) g (no-start (a .s) (a .bytes .now) (sum .check-byte .ensures) (read .read-start .ensures) (c .if1 .taken))
 
 kind-there : tie.Need-shared-slice-read-t12
 kind-there c =
@@ -42,7 +42,7 @@ returns-2 c =
     let known = sum .before .before in
     let start = known .before in
     let a = start .args in
-    start-on (a .s) (a .bytes .now) (sum .block-check .ensures) (read .read-start .ensures) (test .if1 .left) (start .pre .0) (start .pre .1 .0) (start .pre .1 .1)
+    start-on (a .s) (a .bytes .now) (sum .check-byte .ensures) (read .read-start .ensures) (test .if1 .left) (start .pre .0) (start .pre .1 .0) (start .pre .1 .1)
     (λ j. omega (arith, known .shared-slice-known .given j)) (c .seen-behind .ensures)
 
 pub start-ahead-spec : {M : Type 1} → statement M

@@ -5,7 +5,8 @@ use native.Mathlib.Omega.{arith}
 use lib.ListN.{length}
 use borrow.Author.Needs.{needs}
 use Rattle.service_levels.specs.Meshes.{countTo}
-use Rattle.service_levels.proofs.Counting.{one-less, count-on, count-most}
+use Rattle.general_laws.proofs.Tests.{bool-byte-less}
+use Rattle.service_levels.proofs.Counting.{count-on, count-most}
 use Rattle.service_levels.proofs.meshes.count_from.Statement.{statement}
 use Rattle.service_levels.proofs.meshes.count_from.Tie as tie
 
@@ -20,13 +21,13 @@ unfolding countTo
 loop-holds c = (omega arith, refl)
 
 add-count : tie.Need-add-count Inv-loop μ-loop
-add-count c = simp one-less (omega arith)
+add-count c = simp bool-byte-less (omega arith)
 
 add-count-2 : tie.Need-add-count-2 Inv-loop μ-loop
 add-count-2 c =
     let l = c .before .before in
     let a = l .before .args in
-    simp one-less (omega (arith, l .loop .inv .1, count-most (a .grid .now) (a .level) (2 * l .loop .i)))
+    simp bool-byte-less (omega (arith, l .loop .inv .1, count-most (a .grid .now) (a .level) (2 * l .loop .i)))
 
 loop-again : tie.Need-loop-again Inv-loop μ-loop
 loop-again c =

@@ -7,7 +7,7 @@ use borrow.Author.Needs.{needs}
 use borrow.Author.Tests.{eq-eqb, ne-eqb, le-leb, lt-leb}
 use Rattle.service_levels.specs.Meshes.{value, countTo, meshesFrom}
 use Rattle.service_levels.specs.Returned.{answerOf}
-use Rattle.service_levels.proofs.Counting.{read}
+use Rattle.text_laws.proofs.Payload.{intensity-is-payload}
 use Rattle.service_levels.proofs.meshes.meshes_from.Statement.{statement}
 use Rattle.service_levels.proofs.meshes.meshes_from.Tie as tie
 
@@ -20,7 +20,7 @@ unfolding answerOf meshesFrom
 returns-2 c =
     simp (
       eq-eqb _ _ (c .before .before .if1 .left),
-      ap not (read _ ∙ sym (c .before .are-payload-bytes .ensures)) ∙ c .if2 .taken,
+      ap not (intensity-is-payload _ ∙ sym (c .before .are-payload-bytes .ensures)) ∙ c .if2 .taken,
     )
 
 returns-3 : tie.Need-returns-3
@@ -30,7 +30,7 @@ returns-3 c =
     let sized = judged .before .before in
     simp (
       eq-eqb _ _ (sized .if1 .left),
-      ap not (read _ ∙ sym (judged .before .are-payload-bytes .ensures)) ∙ judged .if2 .left,
+      ap not (intensity-is-payload _ ∙ sym (judged .before .are-payload-bytes .ensures)) ∙ judged .if2 .left,
       lt-leb (sized .before .before .args .level) 14 (omega arith),
     )
 
@@ -44,7 +44,7 @@ returns-4 c =
     let long = sized .if1 .left in
     simp (
       eq-eqb _ _ long,
-      ap not (read _ ∙ sym (judged .before .are-payload-bytes .ensures)) ∙ judged .if2 .left,
+      ap not (intensity-is-payload _ ∙ sym (judged .before .are-payload-bytes .ensures)) ∙ judged .if2 .left,
       le-leb (a .level) 14 (omega arith),
     ) (ap value (c .count-from .ensures ∙ ap (λ n. countTo (a .grid .now) (a .level) (2 * n)) long))
 

@@ -4,7 +4,7 @@ use mathlib.Core.Bool.{not, _&&_}
 use borrow.Author.Needs.{needs}
 use Rattle.service_overlay.specs.Overlay.{overlaid}
 use Rattle.service_overlay.specs.Returned.{outcomeOf}
-use Rattle.service_levels.proofs.Laws.{read}
+use Rattle.text_laws.proofs.Payload.{intensity-is-payload}
 use Rattle.service_overlay.proofs.Overlaying.{no-grids, one-length}
 use Rattle.service_overlay.proofs.grids.overlay.Statement.{statement}
 use Rattle.service_overlay.proofs.grids.overlay.Tie as tie
@@ -23,7 +23,7 @@ returns-2 c =
     let a = tested .before .before .before .before .args in
     simp (
       no-grids (a .first .now) (a .second .now) (a .third .now) ∙ tested .if1 .left,
-      ap not (ap₂ (λ x y. x && y) (read _ ∙ sym (first .are-payload-bytes .ensures)) (read _ ∙ sym (c .before .are-payload-bytes2 .ensures))) ∙ c .if2 .taken,
+      ap not (ap₂ (λ x y. x && y) (intensity-is-payload _ ∙ sym (first .are-payload-bytes .ensures)) (intensity-is-payload _ ∙ sym (c .before .are-payload-bytes2 .ensures))) ∙ c .if2 .taken,
     )
 
 overlay-bytes-requires : tie.Need-overlay-bytes-requires
@@ -41,7 +41,7 @@ returns-3 c =
     let a = tested .before .before .before .before .args in
     simp (
       no-grids (a .first .now) (a .second .now) (a .third .now) ∙ tested .if1 .left,
-      ap not (ap₂ (λ x y. x && y) (read _ ∙ sym (first .are-payload-bytes .ensures)) (read _ ∙ sym (judged .before .are-payload-bytes2 .ensures))) ∙ judged .if2 .left,
+      ap not (ap₂ (λ x y. x && y) (intensity-is-payload _ ∙ sym (first .are-payload-bytes .ensures)) (intensity-is-payload _ ∙ sym (judged .before .are-payload-bytes2 .ensures))) ∙ judged .if2 .left,
       c .before .before .overlay-bytes .ensures,
     )
 

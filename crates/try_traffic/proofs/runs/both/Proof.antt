@@ -23,7 +23,6 @@ both-spec =
     tie.close
     (tie.spec
     (λ c κs. search needs)
-    (λ c κs. search needs)
     slice-aggregate-by-bytes
     (λ c κs. search needs)
     (λ c κs. search needs)

@@ -30,7 +30,7 @@ lends payload output from size at p o =
     omega (arith, short, share, ap length (part-to-end output at), length-drop at output)
 
 -- how many data texts are left, with room for them and a share of the payload for each
-record Left (output₀ : List ℕ) (part picture : ℕ) (payload : List ℕ) (last size : ℕ) (output : List ℕ) (k at from : ℕ) : Type 0 where
+record TextsToWrite (output₀ : List ℕ) (part picture : ℕ) (payload : List ℕ) (last size : ℕ) (output : List ℕ) (k at from : ℕ) : Type 0 where
   left : ℕ
   count : k + left ≡ suc last
   shares : from + left * size ≤ length payload
@@ -41,7 +41,7 @@ record Left (output₀ : List ℕ) (part picture : ℕ) (payload : List ℕ) (la
 module _ (output₀ : List ℕ) (part picture : ℕ) (payload : List ℕ) (last size : ℕ) where
   begun :
       size ≡ dataBlockLength part - 3 → 3 ≤ dataBlockLength part → last ≡ dataTexts part false → length payload ≡ payloadLength part →
-      40 + dataTexts part false * (dataBlockLength part + 8) ≤ length output₀ → Left output₀ part picture payload last size output₀ 1 40 0
+      40 + dataTexts part false * (dataBlockLength part + 8) ≤ length output₀ → TextsToWrite output₀ part picture payload last size output₀ 1 40 0
   unfolding payloadLength
   begun e l n h fits =
       let wide : size + 11 ≡ dataBlockLength part + 8 = omega arith in
@@ -54,7 +54,7 @@ module _ (output₀ : List ℕ) (part picture : ℕ) (payload : List ℕ) (last 
         rest = refl;
       }
 
-  module _ {output : List ℕ} {k at from : ℕ} (v : Left output₀ part picture payload last size output k at from) where
+  module _ {output : List ℕ} {k at from : ℕ} (v : TextsToWrite output₀ part picture payload last size output k at from) where
     -- one is left: it has its share and its room
     one : k ≤ last → v .left ≡ suc (v .left - 1)
     one h = omega (arith, v .count)
@@ -67,7 +67,7 @@ module _ (output₀ : List ℕ) (part picture : ℕ) (payload : List ℕ) (last 
 
     turn :
         k ≤ last → size ≡ dataBlockLength part - 3 → {next : List ℕ} → next ≡ sets output at (textOf (blockOf picture (kindOf part k) (take size (drop from payload)))) →
-        Left output₀ part picture payload last size next (k + 1) (at + (size + 11)) (from + size)
+        TextsToWrite output₀ part picture payload last size next (k + 1) (at + (size + 11)) (from + size)
     turn h e {next} put =
         let n = v .left - 1 in
         let text = textOf (blockOf picture (kindOf part k) (take size (drop from payload))) in
@@ -95,7 +95,7 @@ module _ (output₀ : List ℕ) (part picture : ℕ) (payload : List ℕ) (last 
 
 abbrev Inv-loop : tie.InvT-loop
 Inv-loop output₀ part picture payload last size k₀ at₀ from₀ output k at from =
-    Left output₀ part picture payload last size output k at from
+    TextsToWrite output₀ part picture payload last size output k at from
 
 abbrev μ-loop : tie.MeasureT-loop
 μ-loop output₀ part picture payload last size k₀ at₀ from₀ output k at from = suc last - k

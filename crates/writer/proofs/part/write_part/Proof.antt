@@ -13,7 +13,7 @@ use Rattle.text.specs.Part.{partBytes}
 use Rattle.text.specs.WriterInput.{isWriterInput}
 use Rattle.text.specs.declared.header.WriterHeader.{WriterHeader}
 use Rattle.general_laws.proofs.Tests.{out-of}
-use Rattle.writer_spec.specs.Written.{isPayload, writesNoEcho, writtenPart, writes, wrote, WriteOutcome}
+use Rattle.writer_spec.specs.Written.{isPayload, writesNoEcho, writtenPart, writes, bytesWritten, WriteOutcome}
 use Rattle.writer.specs.Returned.{answerOf, outcomeOf}
 use Rattle.writer.specs.declared.part.WriteResult.the-variants.{Bytes}
 use Rattle.writer.proofs.PutTexts.{sets-front, payload-long, written-long}
@@ -35,13 +35,13 @@ taken :
     n ≡ partLength p (writesNoEcho p payload) → n ≤ length output → last ≡ partBytes (writtenPart p h modes payload) ++ drop n output →
     outcomeOf (Bytes n) last ≡ writes p h modes payload output
 unfolding writes outcomeOf answerOf
-taken p h modes payload output {n} {last} known handed payload-long long room e =
+taken p h modes payload output {n} {last} known input payload-long long room e =
     let most : ltb (length output) (partLength p (writesNoEcho p payload)) ≡ false = le-ltb (length output) (partLength p (writesNoEcho p payload)) (omega arith) in
-    simp (known, handed, payload-long, most)
-    (ap₂ sentAs long (e ∙ ap (λ m. partBytes (writtenPart p h modes payload) ++ drop m output) long))
+    simp (known, input, payload-long, most)
+    (ap₂ writtenAs long (e ∙ ap (λ m. partBytes (writtenPart p h modes payload) ++ drop m output) long))
   where
-    sentAs : ℕ → List ℕ → WriteOutcome
-    sentAs m l = record { answer = wrote m; output = l }
+    writtenAs : ℕ → List ℕ → WriteOutcome
+    writtenAs m l = record { answer = bytesWritten m; output = l }
 
 returns : tie.Need-returns
 unfolding writes outcomeOf answerOf

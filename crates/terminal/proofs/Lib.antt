@@ -1,0 +1,2 @@
+-- The laws that a customer's proofs use.
+pub mod Laws
