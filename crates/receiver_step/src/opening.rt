@@ -64,7 +64,7 @@ fn at_gap(part: u8, due: u8, count: u8) -> Frame
 }
 
 // A byte between texts. With no part open it is free. Row 12: with a part open, the opening must
-// follow byte upon byte. Notice 49, 4(1)(1-1)(c)(ア)
+// follow byte upon byte. Notice 49, 4(1)(1-1)(a) and (c)(ア), 4(1)(1-2)(a), 4(2)(a)
 pub(crate) fn gap_decided(s: State, due: u8, b: u8) -> Decision
     ensures { λ r. ⌜ r ≡ gapDecided s due b ⌝ }
 {

@@ -3,7 +3,7 @@ ghost use mathlib.Core.Path.{_≡_};
 ghost use Rattle.text.specs.Kinds.{dataTexts, partLength, payloadLength};
 
 // How many data texts a part has; with NO ECHO only quality has any. None where there is no such part.
-// Notice 49, 4(1)(1-1)(a), 4(1)(1-2)(a), 4(2)(a)
+// Notice 49, 4(1)(1-1)(a) and (d)(イ), 4(1)(1-2)(a), 4(2)(a)
 pub fn data_texts(part: u8, noecho: bool) -> u8
     ensures { λ r. ⌜ r ≡ dataTexts part noecho ⌝ }
 {

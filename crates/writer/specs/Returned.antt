@@ -10,6 +10,11 @@ unfoldable pub answerOf : WriteResult → WriteAnswer
 answerOf (Bytes n) = bytesWritten n
 answerOf (Refused n) = refused n
 
+-- how many bytes were written: none on a refusal
+unfoldable pub countOf : WriteResult → ℕ
+countOf (Bytes n) = n
+countOf (Refused n) = 0
+
 -- a call's result, with the output at its exit
 unfoldable pub outcomeOf : WriteResult → List ℕ → WriteOutcome
-outcomeOf r output = record { answer = answerOf r; output = output }
+outcomeOf r output = record { answer = answerOf r; count = countOf r; output = output }

@@ -7,4 +7,5 @@ pub mod WrittenAgain
 pub mod HeldPart
 pub mod Rewriting
 pub mod BitsKept
+pub mod Relaying
 pub mod Theorem

@@ -10,7 +10,7 @@ use lib.ListN.{length, set, take, drop, length-append, List·getD-append}
 use lib.Seq.{sets, sets-eq, length-sets, length-take-le, getD-append-add, getD-set-other, set-getD}
 use borrow.Author.Tests.{eqb-true, eqb-false, eq-eqb, ne-eqb}
 use Rattle.general_laws.specs.Bytes.{_!_, isIn}
-use Rattle.text.specs.Text.{controlA, controlB, textOf}
+use Rattle.text.specs.Text.{controlA, controlB, textOf, checkByte}
 use Rattle.text.specs.Part.{Part, textsOf, partBytes}
 use Rattle.general_laws.proofs.Places.{places}
 use Rattle.general_laws.proofs.Tests.{by-test, neither}
@@ -123,3 +123,26 @@ pub bytes-long : (part : Part) → length (partBytes part) ≡ length (textOf (p
 unfolding partBytes
 bytes-long part =
     omega (arith, length-append (textOf (part .start)) (textsOf (part .datas) ++ textOf (part .end)), length-append (textsOf (part .datas)) (textOf (part .end)))
+
+-- the check bytes of the start text and of the end text
+check-in-text : (b : List ℕ) → length b ≡ 32 → textOf b ! 38 ≡ checkByte b
+unfolding textOf
+check-in-text b l =
+    let place : 33 ≡ length b + 1 = omega (arith, l) in
+    getD-append-add controlA (b ++ controlB b) 33 0 ∙ ap (λ m. (b ++ controlB b) ! m) place ∙ getD-append-add b (controlB b) 1 0
+
+pub start-check-at : (part : Part) → length (part .start) ≡ 32 → partBytes part ! 38 ≡ checkByte (part .start)
+unfolding partBytes
+start-check-at part l =
+    List·getD-append (textOf (part .start)) (textsOf (part .datas) ++ textOf (part .end)) 0 38 (omega (arith, text-length (part .start), l))
+    ∙ check-in-text (part .start) l
+
+pub end-check-at : (part : Part) (n : ℕ) → n ≡ length (textOf (part .start)) + length (textsOf (part .datas)) → length (part .end) ≡ 32
+    → partBytes part ! (n + 38) ≡ checkByte (part .end)
+unfolding partBytes
+end-check-at part n e l =
+    let place : n + 38 ≡ length (textOf (part .start)) + (length (textsOf (part .datas)) + 38) = omega arith in
+    ap (λ m. (textOf (part .start) ++ (textsOf (part .datas) ++ textOf (part .end))) ! m) place
+    ∙ getD-append-add (textOf (part .start)) (textsOf (part .datas) ++ textOf (part .end)) (length (textsOf (part .datas)) + 38) 0
+    ∙ getD-append-add (textsOf (part .datas)) (textOf (part .end)) 38 0
+    ∙ check-in-text (part .end) l

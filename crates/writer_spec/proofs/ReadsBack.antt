@@ -199,14 +199,14 @@ module _ (p : ℕ) (h : WriterHeader) (modes payload : List ℕ) (t : Accepted p
       )
 
   placed : (output : List ℕ) → length (written p h modes payload) ≤ length output
-      → writes p h modes payload output ≡ record { answer = bytesWritten (length (written p h modes payload)); output = written p h modes payload ++ drop (length (written p h modes payload)) output }
+      → writes p h modes payload output ≡ record { answer = bytesWritten (length (written p h modes payload)); count = length (written p h modes payload); output = written p h modes payload ++ drop (length (written p h modes payload)) output }
   unfolding writes
   placed output room =
       let fits : ltb (length output) (partLength p (writesNoEcho p payload)) ≡ false = le-ltb (length output) (partLength p (writesNoEcho p payload)) (omega (arith, long, room)) in
       simp (t .part, t .input, t .allowed, fits) (ap placedAs (sym long))
     where
       placedAs : ℕ → WriteOutcome
-      placedAs n = record { answer = bytesWritten n; output = written p h modes payload ++ drop n output }
+      placedAs n = record { answer = bytesWritten n; count = n; output = written p h modes payload ++ drop n output }
 
   pub reads-back : ReadsBack p h modes payload
   reads-back =

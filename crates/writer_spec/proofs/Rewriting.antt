@@ -9,7 +9,7 @@ use lib.ListN.{length}
 use lib.Seq.{sets, length-sets}
 use borrow.Author.Tests.{eqb-true, not-true}
 use Rattle.general_laws.specs.Bytes.{_!_, isIn, every}
-use Rattle.text.specs.Text.{textOf}
+use Rattle.text.specs.Text.{textOf, checkByte}
 use Rattle.text.specs.Kinds.{isPartNumber, dataTexts, payloadLength}
 use Rattle.text.specs.StartBlock.{noEchoOf, modeByte, clockBytes, radarsOf, headerOf}
 use Rattle.text.specs.EndBlock.{modesOf}
@@ -22,8 +22,8 @@ use Rattle.text_laws.proofs.Framing.{text-length}
 use Rattle.text_laws.proofs.Blocks.{PartRules, part-rules}
 use Rattle.text_laws.proofs.Parts.{start-long, end-long}
 use Rattle.writer_spec.specs.Written.{writesNoEcho, statusByte, timeText, blockOf, startContents, endContents, dataBlocks, writtenPart}
-use Rattle.writer_spec.specs.Demand2.{heldPart, heldPayload, rewrittenPart, hasAllZeroData, endAt, startPlaces, endPlaces, mayDiffer, plainStatus, plainMode, isPlain, noEchoStart, noEchoEnd, Rewritten}
-use Rattle.writer_spec.proofs.Places.{in-shifted, append-agrees, sets-at, sets-same, text-agrees, start-byte-at, end-byte-at, bytes-long}
+use Rattle.writer_spec.specs.Demand2.{heldPart, heldPayload, rewrittenPart, hasAllZeroData, endAt, startPlaces, endPlaces, mayDiffer, plainStatus, plainMode, isPlain, noEchoStart, noEchoEnd, Rewritten, isPlainStart, isPlainEnd}
+use Rattle.writer_spec.proofs.Places.{in-shifted, append-agrees, sets-at, sets-same, text-agrees, start-byte-at, end-byte-at, bytes-long, start-check-at, end-check-at}
 use Rattle.writer_spec.proofs.WrittenAgain.{start-again, end-again, datas-again}
 use Rattle.writer_spec.proofs.HeldPart.{every-zeros, is-part-number, held-payload, radars-long, held-taken}
 
@@ -176,15 +176,31 @@ module _ (part : Part) (h : isPart part ≡ true) where
       ∙ ap plainMode (sym (end-byte-at part n (3 + i) end-begins (omega (arith, end-long part h))) ∙ ap (λ t. partBytes part ! t) (sym place))
 
   -- plain bytes are left as they are
+  plain-start : isPlainStart part ≡ true → plainPart part .start ≡ part .start
+  plain-start p =
+      let (a, b) = and-split (eqb (plainStatus (heldPart part) (part .start ! 4)) (part .start ! 4)) (eqb (plainMode (part .start ! 5)) (part .start ! 5)) p in
+      ap₂ (λ s t. sets (part .start) 4 (s ∷ t ∷ [])) (eqb-true _ _ a) (eqb-true _ _ b) ∙ sets-same (part .start) 4 2
+
+  plain-end : isPlainEnd part ≡ true → plainPart part .end ≡ part .end
+  plain-end p = ap (λ t. sets (part .end) 3 t) (map-same (λ j. plainMode (part .end ! j)) (λ j. part .end ! j) (places 3 8) p) ∙ sets-same (part .end) 3 8
+
   plain-same : isPlain part ≡ true → plainPart part ≡ part
   plain-same p =
-      let (ab, c) = and-split (eqb (plainStatus (heldPart part) (part .start ! 4)) (part .start ! 4) && eqb (plainMode (part .start ! 5)) (part .start ! 5)) (every (λ i. eqb (plainMode (part .end ! i)) (part .end ! i)) (places 3 8)) p in
-      let (a, b) = and-split (eqb (plainStatus (heldPart part) (part .start ! 4)) (part .start ! 4)) (eqb (plainMode (part .start ! 5)) (part .start ! 5)) ab in
-      let start : plainPart part .start ≡ part .start =
-      ap₂ (λ s t. sets (part .start) 4 (s ∷ t ∷ [])) (eqb-true _ _ a) (eqb-true _ _ b) ∙ sets-same (part .start) 4 2 in
-      let end : plainPart part .end ≡ part .end =
-      ap (λ t. sets (part .end) 3 t) (map-same (λ j. plainMode (part .end ! j)) (λ j. part .end ! j) (places 3 8) c) ∙ sets-same (part .end) 3 8 in
-      λ i. record { start = start i; datas = part .datas; end = end i }
+      let (s, e) = and-split (isPlainStart part) (isPlainEnd part) p in
+      λ i. record { start = plain-start s i; datas = part .datas; end = plain-end e i }
+
+  -- the check bytes
+  plain-end-long : length (plainPart part .end) ≡ 32
+  plain-end-long = length-sets (part .end) 3 (plainEnd part) ∙ end-long part h
+
+  plain-checks : (partBytes (plainPart part) ! 38 ≡ checkByte (plainPart part .start)) × (partBytes (plainPart part) ! (endAt (partBytes part) + 38) ≡ checkByte (plainPart part .end))
+  plain-checks = (
+    start-check-at (plainPart part) (length-sets (part .start) 4 (plainStart part) ∙ start-long part h),
+    end-check-at (plainPart part) (endAt (partBytes part)) (omega (arith, end-begins, start-text)) plain-end-long,
+  )
+
+  own-checks : (partBytes part ! 38 ≡ checkByte (part .start)) × (partBytes part ! (endAt (partBytes part) + 38) ≡ checkByte (part .end))
+  own-checks = (start-check-at part (start-long part h), end-check-at part (endAt (partBytes part)) end-begins (end-long part h))
 
   -- ---- data texts of all zeros
 
@@ -240,6 +256,15 @@ rewritten bytes u =
         again c 10 ∙ plain-mode part h ∙ ap (λ t. plainMode (t ! 10)) (sym framed),
       );
       modes = λ c i l. again c (endAt bytes + (8 + i)) ∙ subst (λ t. partBytes (plainPart part) ! (endAt t + (8 + i)) ≡ plainMode (t ! (endAt t + (8 + i)))) (sym framed) (plain-modes part h i l);
+      checks = λ c. (
+        again c 38 ∙ plain-checks part h .0 ∙ ap (λ t. checkByte (t .start)) (sym (part-again part h c)),
+        again c (endAt bytes + 38) ∙ ap (λ t. partBytes (plainPart part) ! (endAt t + 38)) framed ∙ plain-checks part h .1
+            ∙ ap (λ t. checkByte (t .end)) (sym (part-again part h c)),
+      );
+      startCheck = λ c p. again c 38 ∙ plain-checks part h .0 ∙ ap checkByte (plain-start part h p) ∙ sym (own-checks part h .0) ∙ ap (λ t. t ! 38) (sym framed);
+      endCheck = λ c p.
+          again c (endAt bytes + 38) ∙ ap (λ t. partBytes (plainPart part) ! (endAt t + 38)) framed ∙ plain-checks part h .1 ∙ ap checkByte (plain-end part h p)
+          ∙ sym (own-checks part h .1) ∙ ap (λ t. t ! (endAt t + 38)) (sym framed);
       same = λ c p. ap partBytes (part-again part h c ∙ plain-same part h p) ∙ sym framed;
       allZeroData = λ c. (zero-bytes part h c, zero-long part h c);
     }

@@ -8,7 +8,7 @@ use lib.Dec.{eqb}
 use lib.ListN.{length, take, drop}
 use lib.Seq.{sets}
 use Rattle.general_laws.specs.Bytes.{_!_, isIn, every}
-use Rattle.text.specs.Text.{textOf}
+use Rattle.text.specs.Text.{checkByte, textOf}
 use Rattle.text.specs.Kinds.{isPartNumber, partLength, payloadLength}
 use Rattle.text.specs.StartBlock.{noEchoOf, modeOf, modeByte}
 use Rattle.text.specs.EndBlock.{highest}
@@ -16,7 +16,7 @@ use Rattle.text.specs.Part.{Part, partBytes, startPart, dataTextsAfter, Undamag
 use Rattle.text.specs.WriterInput.{writerHeaderOf, isWriterInput}
 use Rattle.text.specs.declared.header.Header.{Header}
 use Rattle.text.specs.declared.header.WriterHeader.{WriterHeader}
-use Rattle.receiver_spec.specs.Calls.{Call, received, singly}
+use Rattle.receiver_spec.specs.Calls.{partComplete, Request, Call, onGrid, ask, received, singly}
 use Rattle.writer_spec.specs.Written.{writesNoEcho, statusByte, writtenPart, isPayload, bytesWritten, writes}
 
 -- What the writer takes: rows 31 to 33 do not refuse it, and header and modes have the lengths of the code's arrays
@@ -51,7 +51,7 @@ pub record ReadsBack (p : ℕ) (h : WriterHeader) (modes payload : List ℕ) : T
   pub long : length (written p h modes payload) ≡ partLength p (writesNoEcho p payload)
   -- the writer puts them at the front of every output that has room, says how many they are, and leaves what lies behind them
   pub placed : (output : List ℕ) → length (written p h modes payload) ≤ length output
-      → writes p h modes payload output ≡ record { answer = bytesWritten (length (written p h modes payload)); output = written p h modes payload ++ drop (length (written p h modes payload)) output }
+      → writes p h modes payload output ≡ record { answer = bytesWritten (length (written p h modes payload)); count = length (written p h modes payload); output = written p h modes payload ++ drop (length (written p h modes payload)) output }
   -- a fresh receiver that is given them one by one answers complete at the last byte and not before
   pub last : singly (written p h modes payload) .said ! (length (written p h modes payload) - 1) ≡ 3
   pub before : (i : ℕ) → suc i < length (written p h modes payload) → singly (written p h modes payload) .said ! i ≢ 3
@@ -101,12 +101,16 @@ plainMode b = modeByte (modeOf b)
 abbrev pub modePlaces : List ℕ
 modePlaces = 3 ∷ 4 ∷ 5 ∷ 6 ∷ 7 ∷ 8 ∷ 9 ∷ 10 ∷ []
 
--- meaningless bits, and quality's NO ECHO bit, are 0
+-- meaningless bits, and quality's NO ECHO bit, are 0: in the start block, in the end block, in both
+abbrev pub isPlainStart : Part → Bool
+isPlainStart part =
+    eqb (plainStatus (heldPart part) (part .start ! 4)) (part .start ! 4) && eqb (plainMode (part .start ! 5)) (part .start ! 5)
+
+abbrev pub isPlainEnd : Part → Bool
+isPlainEnd part = every (λ i. eqb (plainMode (part .end ! i)) (part .end ! i)) modePlaces
+
 abbrev pub isPlain : Part → Bool
-isPlain part =
-    eqb (plainStatus (heldPart part) (part .start ! 4)) (part .start ! 4)
-    && eqb (plainMode (part .start ! 5)) (part .start ! 5)
-    && every (λ i. eqb (plainMode (part .end ! i)) (part .end ! i)) modePlaces
+isPlain part = isPlainStart part && isPlainEnd part
 
 -- The blocks that are written in the exception: the start block that came, with NO ECHO alone in status 1 and the mode alone in status 2;
 -- the end block that came, with the modes alone in its mode bytes
@@ -127,6 +131,13 @@ pub record Rewritten (bytes : List ℕ) (u : UndamagedPart bytes) : Type 0 where
       → (partBytes (rewrittenPart (u .part)) ! 9 ≡ plainStatus (heldPart (u .part)) (bytes ! 9)) × (partBytes (rewrittenPart (u .part)) ! 10 ≡ plainMode (bytes ! 10))
   pub modes : hasAllZeroData (u .part) ≡ false → (i : ℕ) → i < 8
       → partBytes (rewrittenPart (u .part)) ! (endAt bytes + (8 + i)) ≡ plainMode (bytes ! (endAt bytes + (8 + i)))
+  -- the two check bytes are those of the blocks as rewritten, and unchanged where the block's bits are 0
+  pub checks : hasAllZeroData (u .part) ≡ false
+      → (partBytes (rewrittenPart (u .part)) ! 38 ≡ checkByte (rewrittenPart (u .part) .start))
+      × (partBytes (rewrittenPart (u .part)) ! (endAt bytes + 38) ≡ checkByte (rewrittenPart (u .part) .end))
+  pub startCheck : hasAllZeroData (u .part) ≡ false → isPlainStart (u .part) ≡ true → partBytes (rewrittenPart (u .part)) ! 38 ≡ bytes ! 38
+  pub endCheck : hasAllZeroData (u .part) ≡ false → isPlainEnd (u .part) ≡ true
+      → partBytes (rewrittenPart (u .part)) ! (endAt bytes + 38) ≡ bytes ! (endAt bytes + 38)
   -- outright where those bits are 0: so every such part is one that the writer writes
   pub same : hasAllZeroData (u .part) ≡ false → isPlain (u .part) ≡ true → partBytes (rewrittenPart (u .part)) ≡ bytes
   -- the exception: NO ECHO is set and the data texts are left out, so that the bytes are two texts
@@ -134,7 +145,24 @@ pub record Rewritten (bytes : List ℕ) (u : UndamagedPart bytes) : Type 0 where
       → (partBytes (rewrittenPart (u .part)) ≡ textOf (noEchoStart (u .part)) ++ textOf (noEchoEnd (u .part)))
       × (length (partBytes (rewrittenPart (u .part))) ≡ 80)
 
--- The two halves, for all input
+-- Complete is rewritten, of calls: one more call r after these was answered 3, complete, with part p. The bytes taken end with an undamaged
+-- part, which is the one that complete tells; the header, modes and grid returned and left, handed to the writer with an output that has room,
+-- are taken; and what is written is that part, but for what 01 names
+pub record Relayed (calls : List Call) (r : Request) (p : ℕ) : Type 0 where
+  pub before : List ℕ
+  pub bytes : List ℕ
+  pub split : received (calls ++ (onGrid r ∷ [])) .taken ≡ before ++ bytes
+  pub whole : UndamagedPart bytes
+  pub number : p ≡ heldPart (whole .part)
+  pub taken : (output : List ℕ) → length (partBytes (rewrittenPart (whole .part))) ≤ length output
+      → let here = received (calls ++ (onGrid r ∷ [])) in
+      let again = partBytes (rewrittenPart (whole .part)) in
+      writes p (writerHeaderOf (here .state .header)) (here .state .modes) (take (payloadLength p) (here .grid)) output
+      ≡ record { answer = bytesWritten (length again); count = length again; output = again ++ drop (length again) output }
+  pub rewritten : Rewritten bytes whole
+
+-- The two halves, for all input; and the second of every list of calls, and each call of it that is answered complete
 pub record Demand2 : Type 0 where
   pub readsBack : (p : ℕ) (h : WriterHeader) (modes payload : List ℕ) → Accepted p h modes payload → ReadsBack p h modes payload
   pub rewritten : (bytes : List ℕ) (u : UndamagedPart bytes) → Rewritten bytes u
+  pub relayed : (calls : List Call) (r : Request) (p : ℕ) → ask (received calls .state) (received calls .grid) r .reply ≡ partComplete p → Relayed calls r p

@@ -78,14 +78,15 @@ pub data WriteAnswer : Type 0 where
   bytesWritten : ℕ → WriteAnswer
   refused : ℕ → WriteAnswer
 
--- with the output that it leaves
+-- with how many bytes were written and the output that it leaves
 pub record WriteOutcome : Type 0 where
   pub answer : WriteAnswer
+  pub count : ℕ
   pub output : List ℕ
 
 -- a refusal: output unchanged, 0 written
 abbrev pub refuses : ℕ → List ℕ → WriteOutcome
-refuses n output = record { answer = refused n; output = output }
+refuses n output = record { answer = refused n; count = 0; output = output }
 
 -- Rows 31 to 34 in order; otherwise the part's bytes stand at the front of the output, and the rest is untouched.
 -- Notice 49, 4(1)(1-1)(a), 4(1)(1-2)(a), 4(2)(a)
@@ -96,4 +97,4 @@ writes p h modes payload output =
     (cond (not (isWriterInput h modes)) (refuses 32 output)
     (cond (not (isPayload p payload)) (refuses 33 output)
     (cond (ltb (length output) long) (refuses 34 output)
-    (record { answer = bytesWritten long; output = partBytes (writtenPart p h modes payload) ++ drop long output }))))
+    (record { answer = bytesWritten long; count = long; output = partBytes (writtenPart p h modes payload) ++ drop long output }))))

@@ -6,14 +6,16 @@ use borrow.Author.Needs.{needs}
 use borrow.Author.Tests.{ne-eqb, not-true, not-false}
 use Rattle.text_laws.proofs.KindTable.{block-most}
 use Rattle.receiver_spec.proofs.Laws.{place-before-kind, place-in-text}
-use Rattle.service_bytes_left.specs.BytesLeft.{impossible, unread, known, remainder}
+use Rattle.service_bytes_left.specs.BytesLeft.{impossible, unread, known, remainder, answerOf}
 use Rattle.service_bytes_left.proofs.left.bytes_left.Statement.{statement}
 use Rattle.service_bytes_left.proofs.left.bytes_left.Tie as tie
 
 returns : tie.Need-returns
+unfolding answerOf
 returns c = impossible (sym (c .before .is-possible .ensures) ∙ not-true _ (c .if1 .taken))
 
 returns-2 : tie.Need-returns-2
+unfolding answerOf
 returns-2 c =
     let test = c .before .before .before in
     Rattle.service_bytes_left.specs.BytesLeft.between (sym (test .before .is-possible .ensures) ∙ not-false _ (test .if1 .left)) (c .if2 .taken)
@@ -24,6 +26,7 @@ sub-t5 c =
     omega (arith, place-before-kind _ (sym (test .before .is-possible .ensures) ∙ not-false _ (test .if1 .left)) (c .before .if3 .taken))
 
 returns-3 : tie.Need-returns-3
+unfolding answerOf
 returns-3 c =
     let test = c .before .before .before .before .before .before in
     unread {n = 2006 - c .before .before .before .before .before .before .before .before .args .state .frame .place} (sym (test .before .is-possible .ensures) ∙ not-false _ (test .if1 .left)) (ne-eqb _ _ (c .before .before .before .if2 .left)) (c .before .if3 .taken) (omega arith)
@@ -41,7 +44,7 @@ sub-t8 c =
     )
 
 returns-4 : tie.Need-returns-4
-unfolding remainder
+unfolding remainder answerOf
 returns-4 c =
     let test = c .before .before .before .before .before .before .before in
     known {n = c .before .block-length .result + 3 - c .before .before .before .before .before .before .before .before .before .args .state .frame .place} (sym (test .before .is-possible .ensures) ∙ not-false _ (test .if1 .left)) (ne-eqb _ _ (c .before .before .before .before .if2 .left)) (ne-eqb _ _ (c .before .before .if3 .left))

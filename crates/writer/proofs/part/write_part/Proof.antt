@@ -14,7 +14,7 @@ use Rattle.text.specs.WriterInput.{isWriterInput}
 use Rattle.text.specs.declared.header.WriterHeader.{WriterHeader}
 use Rattle.general_laws.proofs.Tests.{out-of}
 use Rattle.writer_spec.specs.Written.{isPayload, writesNoEcho, writtenPart, writes, bytesWritten, WriteOutcome}
-use Rattle.writer.specs.Returned.{answerOf, outcomeOf}
+use Rattle.writer.specs.Returned.{answerOf, countOf, outcomeOf}
 use Rattle.writer.specs.declared.part.WriteResult.the-variants.{Bytes}
 use Rattle.writer.proofs.PutTexts.{sets-front, payload-long, written-long}
 use Rattle.writer.proofs.part.write_part.Statement.{statement}
@@ -34,25 +34,25 @@ taken :
     (p : ℕ) (h : WriterHeader) (modes payload output : List ℕ) {n : ℕ} {last : List ℕ} → isPartNumber p ≡ true → isWriterInput h modes ≡ true → isPayload p payload ≡ true →
     n ≡ partLength p (writesNoEcho p payload) → n ≤ length output → last ≡ partBytes (writtenPart p h modes payload) ++ drop n output →
     outcomeOf (Bytes n) last ≡ writes p h modes payload output
-unfolding writes outcomeOf answerOf
+unfolding writes outcomeOf answerOf countOf
 taken p h modes payload output {n} {last} known input payload-long long room e =
     let most : ltb (length output) (partLength p (writesNoEcho p payload)) ≡ false = le-ltb (length output) (partLength p (writesNoEcho p payload)) (omega arith) in
     simp (known, input, payload-long, most)
     (ap₂ writtenAs long (e ∙ ap (λ m. partBytes (writtenPart p h modes payload) ++ drop m output) long))
   where
     writtenAs : ℕ → List ℕ → WriteOutcome
-    writtenAs m l = record { answer = bytesWritten m; output = l }
+    writtenAs m l = record { answer = bytesWritten m; count = m; output = l }
 
 returns : tie.Need-returns
-unfolding writes outcomeOf answerOf
+unfolding writes outcomeOf answerOf countOf
 returns c = simp (outside (c .before .before .before .args .part) (c .if1 .taken))
 
 returns-2 : tie.Need-returns-2
-unfolding writes outcomeOf answerOf
+unfolding writes outcomeOf answerOf countOf
 returns-2 c = simp (inside (c .before .before .before .before .before .args .part) (c .before .before .if1 .left), sym (c .before .is-writer-input .ensures) ∙ not-true _ (c .if2 .taken))
 
 returns-3 : tie.Need-returns-3
-unfolding writes outcomeOf answerOf
+unfolding writes outcomeOf answerOf countOf
 returns-3 c =
     simp (
       inside (c .before .before .before .before .before .before .before .args .part) (c .before .before .before .before .if1 .left),
@@ -61,7 +61,7 @@ returns-3 c =
     )
 
 returns-4 : tie.Need-returns-4
-unfolding writes outcomeOf answerOf
+unfolding writes outcomeOf answerOf countOf
 returns-4 c =
     let a = c .before .before .before .before .before .before .before .before .before .before .args in
     let long = c .before .part-length .ensures ∙ ap (partLength (a .part)) (c .before .before .writes-no-echo .ensures) in

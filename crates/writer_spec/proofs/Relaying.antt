@@ -1,0 +1,115 @@
+-- Complete is rewritten, of calls: what a call answered 3 returned and left is handed to the writer. Assumes nothing.
+use mathlib.Core.Path.{_≡_, refl, sym, ap, ap₂, _∙_}
+use mathlib.Core.List.{List, [], _∷_, _++_, append-assoc, append-nil}
+use Prim.Native.Nat.{ℕ, zero, suc, _+_, _-_, _≤_}
+use native.Mathlib.Omega.{arith}
+use lib.ListN.{length, getD, take, length-append}
+use lib.Seq.{take-suc, length-take-le, getD-append-add}
+use Rattle.general_laws.specs.Bytes.{_!_}
+use Rattle.text.specs.Kinds.{payloadLength}
+use Rattle.text.specs.Part.{UndamagedPart, partHeader, partModes}
+use Rattle.text.specs.WriterInput.{writerHeaderOf}
+use Rattle.text.specs.declared.header.Header.{Header}
+use Rattle.receiver_spec.specs.State.{fresh, emptyGrid}
+use Rattle.receiver_spec.specs.Calls.{partComplete, number, CallOutcome, Request, byte, slice, Call, onGrid, ask, bytesOf, spread, After, start, add, next, received}
+use Rattle.receiver_spec.specs.Demand3.{EndsUndamaged}
+use Rattle.receiver_spec.proofs.Laws.{demand-3, after-last, calls-stepped, answers-long}
+use Rattle.writer_spec.specs.Written.{writes}
+use Rattle.writer_spec.specs.Demand2.{heldPart, heldPayload, Relayed}
+use Rattle.writer_spec.proofs.ReadsBack.{reads-back}
+use Rattle.writer_spec.proofs.Rewriting.{rewritten}
+
+spread-last : (n a : ℕ) → spread (suc n) a ! n ≡ a
+spread-last zero a = refl
+spread-last (suc n) a = spread-last n a
+
+one-more : (n : ℕ) → 1 ≤ n → suc (n - 1) ≡ n
+one-more n l = omega arith
+
+at-least-one : (n : ℕ) → (n ≡ 0 → ⊥) → 1 ≤ n
+at-least-one zero f = absurd (f refl)
+at-least-one (suc n) f = omega arith
+
+module _ (calls : List Call) (r : Request) (p : ℕ) (complete : ask (received calls .state) (received calls .grid) r .reply ≡ partComplete p) where
+  abbrev a : After
+  a = received calls
+
+  abbrev list : List Call
+  list = calls ++ (onGrid r ∷ [])
+
+  abbrev outcome : CallOutcome
+  outcome = ask (a .state) (a .grid) r
+
+  here : received list ≡ add a r outcome
+  unfolding next
+  here = after-last calls (onGrid r) start
+
+  -- a byte was taken, and no more than there are
+  some-taken : (1 ≤ outcome .count) × (outcome .count ≤ length (bytesOf r))
+  some-taken = counts r complete (demand-3 list .each calls (onGrid r) [] refl)
+    where
+      counts : (r : Request) → ask (a .state) (a .grid) r .reply ≡ partComplete p
+          → Rattle.receiver_spec.specs.Demand3.CallMade a (onGrid r) → (1 ≤ ask (a .state) (a .grid) r .count) × (ask (a .state) (a .grid) r .count ≤ length (bytesOf r))
+      counts (byte b) e (made, next) = let one : ask (a .state) (a .grid) (byte b) .count ≡ 1 = ap (λ (o : CallOutcome). o .count) made in (omega (arith, one), omega (arith, one))
+      counts (slice bytes) e (made, next) =
+          (at-least-one _ (λ z. omega (arith, ap number (sym (made .none z) ∙ e))), made .within)
+
+  abbrev n : ℕ
+  n = outcome .count - 1
+
+  abbrev front : List ℕ
+  front = a .taken ++ take n (bytesOf r)
+
+  abbrev last : ℕ
+  last = getD (bytesOf r) n 0
+
+  taken-is : received list .taken ≡ front ++ (last ∷ [])
+  taken-is =
+      let (some, most) = some-taken in
+      ap (λ (z : After). z .taken) here
+      ∙ ap (λ t. a .taken ++ t) (ap (λ m. take m (bytesOf r)) (sym (one-more (outcome .count) some)) ∙ take-suc (bytesOf r) n 0 (omega (arith, some, most)))
+      ∙ sym (append-assoc (a .taken) (take n (bytesOf r)) (last ∷ []))
+
+  -- the last byte taken was answered 3
+  last-said : received list .said ! length front ≡ 3
+  last-said =
+      let (some, most) = some-taken in
+      let same : length (a .said) ≡ length (a .taken) = ap length (calls-stepped calls .said) ∙ answers-long (a .taken) fresh emptyGrid in
+      let place : length front ≡ length (a .said) + n = length-append (a .taken) (take n (bytesOf r)) ∙ omega (arith, same, length-take-le n (bytesOf r) (omega (arith, some, most))) in
+      ap₂ (λ (t : List ℕ) i. t ! i) (ap (λ (z : After). z .said) here) place
+      ∙ getD-append-add (a .said) (spread (outcome .count) (number (outcome .reply))) n 0
+      ∙ ap₂ (λ m k. spread m k ! n) (sym (one-more (outcome .count) some)) (ap number complete)
+      ∙ spread-last n 3
+
+  ends : EndsUndamaged (front ++ (last ∷ []))
+  ends = demand-3 list .complete front last [] taken-is .0 last-said
+
+  abbrev u : UndamagedPart (ends .part)
+  u = ends .whole
+
+  split : received list .taken ≡ ends .before ++ ends .part
+  split = taken-is ∙ ends .split
+
+  tells : p ≡ heldPart (u .part)
+  tells = demand-3 list .completeTells calls r [] refl p complete (ends .before) (ends .part) u split
+
+  -- what is held is the part's
+  handed : writes p (writerHeaderOf (received list .state .header)) (received list .state .modes) (take (payloadLength p) (received list .grid))
+      ≡ writes (heldPart (u .part)) (writerHeaderOf (partHeader (u .part))) (partModes (u .part)) (heldPayload (u .part))
+  handed =
+      let (header, modes, grid) = demand-3 list .held list [] (sym (append-nil list)) (ends .before) (ends .part) u split in
+      ap (λ q. writes q (writerHeaderOf (received list .state .header)) (received list .state .modes) (take (payloadLength q) (received list .grid))) tells
+      ∙ ap₂ (λ (h : Header) m. writes (heldPart (u .part)) (writerHeaderOf h) m (take (payloadLength (heldPart (u .part))) (received list .grid))) header modes
+      ∙ ap (λ g. writes (heldPart (u .part)) (writerHeaderOf (partHeader (u .part))) (partModes (u .part)) (take (payloadLength (heldPart (u .part))) g)) grid
+
+  pub relay : Relayed calls r p
+  relay =
+      record {
+        before = ends .before;
+        bytes = ends .part;
+        split = split;
+        whole = u;
+        number = tells;
+        taken = λ output room. ap (λ f. f output) handed ∙ reads-back _ _ _ _ (rewritten (ends .part) u .taken) .placed output room;
+        rewritten = rewritten (ends .part) u;
+      }
