@@ -8,8 +8,7 @@ use lib.ListN.{length, take, length-append}
 use Rattle.text.specs.Part.{StartText}
 use Rattle.text_laws.proofs.Framing.{text-length}
 use Rattle.receiver_spec.specs.State as Spec
-use Rattle.receiver_spec.specs.Calls.{number, Request, byte, slice, Call, onGrid, elsewhere, ask, bytesOf, spread, After, start, add, next, after, received}
-use Rattle.receiver_spec.specs.Demand3.{Demand3}
+use Rattle.receiver_spec.specs.Calls.{CallOutcome, number, Request, byte, slice, Call, onGrid, elsewhere, ask, bytesOf, spread, After, start, add, next, after, received}
 use Rattle.receiver_spec.proofs.Laws.{demand-3, after-last}
 use Rattle.receiver_bytes_seen.specs.Behind.{seenAfter}
 use Rattle.receiver_bytes_seen.proofs.Laws.{length-seen, seen-append, forgets}
@@ -19,7 +18,7 @@ use Rattle.receiver_state.specs.declared.answer.Answer.{Answer}
 use Rattle.receiver_state.specs.declared.answer.Answer.the-variants.{Quiet, Begun, Taken, Complete, Dropped, Refused}
 use Rattle.receiver_byte_call.specs.Returned.{replyOf, returned}
 use Rattle.receiver_byte_call.specs.declared.calls.CallResult.{CallResult}
-use Rattle.receiver_demand_3.specs.CodeCalls.{Ensured, Called, begin, more, other}
+use Rattle.receiver_demand_3.specs.CodeCalls.{Ensured, Called, begin, more, other, outcomeAt, outcomesFrom, CodeWayBack, CodeDemand3}
 
 number-same : (a : Answer) → number (replyOf a) ≡ numberOf a
 unfolding replyOf numberOf
@@ -41,22 +40,29 @@ on-grid : (a : After) (r : Request) → next a (onGrid r) ≡ add a r (ask (a .s
 unfolding next
 on-grid a r = refl
 
+outcomes-last : (calls : List Call) (c : Call) (a : After) → outcomesFrom a (calls ++ (c ∷ [])) ≡ outcomesFrom a calls ++ (outcomeAt (after a calls) c ∷ [])
+unfolding outcomesFrom after
+outcomes-last [] c a = refl
+outcomes-last (d ∷ calls) c a = ap (λ t. outcomeAt a d ∷ t) (outcomes-last calls c (next a d))
+
 -- What a caller's list of calls comes to: what the definition's list of the same calls does
-pub record Received (calls : List Call) (s : State) (g taken said : List ℕ) : Type 0 where
-  pub state : stateOf s ≡ received calls .state
-  pub grid : g ≡ received calls .grid
-  pub bytes : taken ≡ received calls .taken
-  pub answers : said ≡ received calls .said
-  -- the number that holds the bytes seen
-  pub seen : s .seen ≡ seenAfter 0 taken
+record Comes (calls : List Call) (s : State) (g taken said : List ℕ) (made : List CallOutcome) : Type 0 where
+  outcomes : made ≡ outcomesFrom start calls
+  state : stateOf s ≡ received calls .state
+  grid : g ≡ received calls .grid
+  bytes : taken ≡ received calls .taken
+  answers : said ≡ received calls .said
+  seen : s .seen ≡ seenAfter 0 taken
 
 -- one call more on the list's grid
-step-on : (calls : List Call) (s : State) (g taken said : List ℕ) → Received calls s g taken said
+on-list : (calls : List Call) (s : State) (g taken said : List ℕ) (made : List CallOutcome) → Comes calls s g taken said made
     → (r : Request) (result : CallResult) (exit : List ℕ) → Ensured r s g result exit
-    → Received (calls ++ (onGrid r ∷ [])) (result .state) exit (taken ++ take (result .count) (bytesOf r)) (said ++ spread (result .count) (numberOf (result .answer)))
+    → Comes (calls ++ (onGrid r ∷ [])) (result .state) exit (taken ++ take (result .count) (bytesOf r)) (said ++ spread (result .count) (numberOf (result .answer)))
+    (made ++ (returned result exit ∷ []))
 unfolding returned
-step-on calls s g taken said ih r result exit e =
+on-list calls s g taken said made ih r result exit e =
     record {
+      outcomes = ap₂ (λ t o. t ++ (o ∷ [])) (ih .outcomes) outcome ∙ sym (outcomes-last calls (onGrid r) start);
       state = sym (ap (λ (z : After). z .state) here);
       grid = sym (ap (λ (z : After). z .grid) here);
       bytes = ap (λ t. t ++ take (result .count) (bytesOf r)) (ih .bytes) ∙ sym (ap (λ (z : After). z .taken) here);
@@ -73,25 +79,58 @@ step-on calls s g taken said ih r result exit e =
     here : received (calls ++ (onGrid r ∷ [])) ≡ add (received calls) r (returned result exit)
     here = after-last calls (onGrid r) start ∙ on-grid (received calls) r ∙ ap (add (received calls) r) (sym outcome)
 
-pub code-received : {calls : List Call} {s : State} {g taken said : List ℕ} → Called calls s g taken said → Received calls s g taken said
-unfolding start after seenAfter
-code-received (begin s e z) = record { state = e; grid = refl; bytes = refl; answers = refl; seen = z }
-code-received (more {calls} {s} {g} {taken} {said} before r result exit e) = step-on calls s g taken said (code-received before) r result exit e
-code-received (other {calls} before r grid n result exit e) =
-    let ih = code-received before in
-    let here = after-last calls (elsewhere r grid n) start ∙ demand-3 (calls ++ (elsewhere r grid n ∷ [])) .each calls (elsewhere r grid n) [] refl .1 in
+-- one lent another grid: refused with 1, it leaves all as it was
+elsewhere-on : (calls : List Call) (s : State) (g taken said : List ℕ) (made : List CallOutcome) → Comes calls s g taken said made
+    → (r : Request) (grid : List ℕ) (n : length grid ≡ Rattle.text.specs.Part.gridLength → ⊥) (result : CallResult) (exit : List ℕ) → Ensured r s grid result exit
+    → Comes (calls ++ (elsewhere r grid n ∷ [])) (result .state) g taken said (made ++ (returned result exit ∷ []))
+unfolding returned seenAfter
+elsewhere-on calls s g taken said made ih r grid n result exit e =
     record {
-      state = ih .state ∙ sym (ap (λ (z : After). z .state) here);
+      outcomes = ap₂ (λ t o. t ++ (o ∷ [])) (ih .outcomes) outcome ∙ sym (outcomes-last calls (elsewhere r grid n) start);
+      state = ap (λ (o : CallOutcome). o .state) (outcome ∙ refused) ∙ sym (ap (λ (z : After). z .state) here);
       grid = ih .grid ∙ sym (ap (λ (z : After). z .grid) here);
       bytes = ih .bytes ∙ sym (ap (λ (z : After). z .taken) here);
       answers = ih .answers ∙ sym (ap (λ (z : After). z .said) here);
-      seen = ih .seen;
+      seen =
+          asked r s grid result exit e .1
+          ∙ ap (λ m. seenAfter (s .seen) (take m (bytesOf r))) (ap (λ (o : CallOutcome). o .count) (outcome ∙ refused)) ∙ ih .seen;
     }
+  where
+    each : (ask (received calls .state) grid r ≡ Rattle.receiver_spec.specs.Calls.refuses 1 (received calls .state) grid)
+        × (received (calls ++ (elsewhere r grid n ∷ [])) ≡ received calls)
+    each = demand-3 (calls ++ (elsewhere r grid n ∷ [])) .each calls (elsewhere r grid n) [] refl
+
+    outcome : returned result exit ≡ ask (received calls .state) grid r
+    outcome = asked r s grid result exit e .0 ∙ ap (λ t. ask t grid r) (ih .state)
+
+    refused : ask (received calls .state) grid r ≡ Rattle.receiver_spec.specs.Calls.refuses 1 (received calls .state) grid
+    refused = each .0
+
+    here : received (calls ++ (elsewhere r grid n ∷ [])) ≡ received calls
+    here = each .1
+
+comes : {calls : List Call} {s : State} {g taken said : List ℕ} {made : List CallOutcome} → Called calls s g taken said made → Comes calls s g taken said made
+unfolding start after seenAfter outcomesFrom
+comes (begin s (e, z)) = record { outcomes = refl; state = e; grid = refl; bytes = refl; answers = refl; seen = z }
+comes (more {calls} {s} {g} {taken} {said} {made} before r result exit e) = on-list calls s g taken said made (comes before) r result exit e
+comes (other {calls} {s} {g} {taken} {said} {made} before r grid n result exit e) = elsewhere-on calls s g taken said made (comes before) r grid n result exit e
 
 -- ---- the way back, in every field of the code's state
 
--- two states of the code that mean the same and hold the bytes seen by the same number are the same
-same-state : (s t : State) → stateOf s ≡ stateOf t → s .seen ≡ t .seen → s ≡ t
+back : {calls : List Call} {s : State} {g taken said : List ℕ} {made : List CallOutcome} → Comes calls s g taken said made
+    → (before text rest : List ℕ) → StartText text → taken ≡ before ++ (text ++ rest) → CodeWayBack s g text rest
+back {calls} {s} {g} {taken} x before text rest u e =
+    let here = demand-3 calls .wayBack calls [] (sym (append-nil calls)) before text rest u (sym (x .bytes) ∙ e) in
+    let long : 5 ≤ length (text ++ rest) = omega (arith, length-append text rest, ap length (u .framed), text-length (u .block)) in
+    record {
+      state = x .state ∙ here .state;
+      seen = x .seen ∙ ap (seenAfter 0) e ∙ seen-append 0 before (text ++ rest) ∙ forgets (seenAfter 0 before) 0 (text ++ rest) long;
+      grid = x .grid ∙ here .grid;
+    }
+
+-- two states of the code that mean the same and hold the bytes seen by the same number are the same: so after the way back two callers
+-- that took the same bytes from the start text on have the same state, in every field
+pub same-state : (s t : State) → stateOf s ≡ stateOf t → s .seen ≡ t .seen → s ≡ t
 same-state s t e v =
     let count : s .frame .count ≡ t .frame .count =
     sym (length-seen (s .seen) (s .frame .count)) ∙ ap (λ (z : Spec.State). length (z .seen)) e ∙ length-seen (t .seen) (t .frame .count) in
@@ -102,22 +141,22 @@ same-state s t e v =
       modes = e i .modes;
     }
 
--- From a start text's last byte on, a caller's state and grid are those of another caller that gave a fresh receiver, in whatever calls,
--- the bytes from that text's first on
-pub code-way-back :
-    {calls others : List Call} {s t : State} {g h taken said takenThere saidThere : List ℕ}
-    → Called calls s g taken said → Called others t h takenThere saidThere
-    → (before text rest : List ℕ) → StartText text → taken ≡ before ++ (text ++ rest) → takenThere ≡ text ++ rest → (s ≡ t) × (g ≡ h)
-code-way-back {calls} {others} {s} {t} {g} {h} {taken} {said} {takenThere} c d before text rest u e f =
-    let x = code-received c in
-    let y = code-received d in
-    let here = demand-3 calls .wayBack calls [] (sym (append-nil calls)) before text rest u (sym (x .bytes) ∙ e) in
-    let there = demand-3 others .wayBack others [] (sym (append-nil others)) [] text rest u (sym (y .bytes) ∙ f) in
-    let long : 5 ≤ length (text ++ rest) = omega (arith, length-append text rest, ap length (u .framed), text-length (u .block)) in
-    let seen : s .seen ≡ t .seen =
-    x .seen ∙ ap (seenAfter 0) e ∙ seen-append 0 before (text ++ rest) ∙ forgets (seenAfter 0 before) 0 (text ++ rest) long ∙ ap (seenAfter 0) (sym f) ∙ sym (y .seen) in
-    (same-state s t (x .state ∙ here .state ∙ sym (there .state) ∙ sym (y .state)) seen, x .grid ∙ here .grid ∙ sym (there .grid) ∙ sym (y .grid))
+pub same-back : {s t : State} {g h text rest : List ℕ} → CodeWayBack s g text rest → CodeWayBack t h text rest → (s ≡ t) × (g ≡ h)
+same-back {s} {t} x y = (same-state s t (x .state ∙ sym (y .state)) (x .seen ∙ sym (y .seen)), x .grid ∙ sym (y .grid))
 
--- Demand 3, of whatever list of calls a caller makes
-pub code-demand-3 : {calls : List Call} {s : State} {g taken said : List ℕ} → Called calls s g taken said → Received calls s g taken said × Demand3 calls
-code-demand-3 {calls} c = (code-received c, demand-3 calls)
+-- The theorem
+pub code-demand-3 :
+    {calls : List Call} {s : State} {g taken said : List ℕ} {made : List CallOutcome} → Called calls s g taken said made
+    → CodeDemand3 calls s g taken said made
+code-demand-3 {calls} c =
+    let x = comes c in
+    record {
+      outcomes = x .outcomes;
+      state = x .state;
+      grid = x .grid;
+      bytes = x .bytes;
+      answers = x .answers;
+      seen = x .seen;
+      wayBack = back x;
+      demand = demand-3 calls;
+    }

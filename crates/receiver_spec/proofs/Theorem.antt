@@ -243,7 +243,7 @@ module _ (calls : List Call) where
 
 -- ---- each call of a list
 
-made : (calls : List Call) (call : Call) → CallMade (received calls) call
+made : (calls : List Call) (call : Call) → CallMade (received calls) call (next (received calls) call)
 unfolding next
 made calls (onGrid (byte b)) =
     let a = received calls in
@@ -328,9 +328,11 @@ complete-tells calls (slice bytes) p h before part u e =
 
 -- The theorem
 pub demand-3 : (calls : List Call) → Demand3 calls
+unfolding start after
 demand-3 calls =
     record {
-      each = λ earlier call later e. made earlier call;
+      begin = refl;
+      each = λ earlier call later e. subst (CallMade (received earlier) call) (sym (after-last earlier call start)) (made earlier call);
       wayBack = λ earlier later e before text rest u f. found text u earlier before rest f;
       complete = completed calls;
       held = λ earlier later e. holds earlier;

@@ -100,8 +100,7 @@ pub record After : Type 0 where
 unfoldable pub start : After
 start = record { state = fresh; grid = emptyGrid; taken = []; said = [] }
 
--- one call more, which gets the state and grid that the last one returned and left;
--- after a call lent another grid the next one gets state and grid as they were before it
+-- what a call returned and left, added to that
 abbrev pub add : After → Request → CallOutcome → After
 add a r outcome =
     record {
@@ -111,6 +110,8 @@ add a r outcome =
       said = a .said ++ spread (outcome .count) (number (outcome .reply));
     }
 
+-- one call more, which gets the state and grid that the last one returned and left;
+-- after a call lent another grid the next one gets state and grid as they were before it
 unfoldable pub next : After → Call → After
 next a (onGrid r) = add a r (ask (a .state) (a .grid) r)
 next a (elsewhere r other n) = add a r (record { reply = ask (a .state) other r .reply; count = ask (a .state) other r .count; state = a .state; grid = a .grid })

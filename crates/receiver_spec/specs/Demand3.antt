@@ -7,13 +7,13 @@ use lib.ListN.{length, take, drop}
 use Rattle.general_laws.specs.Bytes.{_!_}
 use Rattle.text.specs.Text.{FD}
 use Rattle.text.specs.Part.{startPart, StartText, UndamagedPart, AlteredTo, partHeader, partModes, gridOf}
-use Rattle.receiver_spec.specs.State.{State}
+use Rattle.receiver_spec.specs.State.{State, fresh, emptyGrid}
 use Rattle.receiver_spec.specs.Receiver.{step}
-use Rattle.receiver_spec.specs.Calls.{quiet, partComplete, number, answered, CallOutcome, refuses, Request, byte, slice, Call, onGrid, elsewhere, ask, spread, After, next, received, singly, answersOf, stateAfter, gridAfter}
+use Rattle.receiver_spec.specs.Calls.{quiet, partComplete, number, answered, CallOutcome, refuses, Request, byte, slice, Call, onGrid, elsewhere, ask, spread, After, received, singly, answersOf, stateAfter, gridAfter}
 
 -- A slice call takes bytes up to and with the first that is answered other than 0: the last byte taken has the call's answer,
 -- those before it 0, and all bytes are taken where the answer is 0. State and grid are those after the bytes taken.
--- No answer without a byte: a call that takes none is answered 0, and none is taken of an empty slice alone
+-- No answer without a byte: a call that takes none is answered 0, and only of an empty slice is none taken
 pub record SliceTaken (s : State) (g bytes : List ℕ) (outcome : CallOutcome) : Type 0 where
   pub answer : outcome .reply ≡ answered (stateAfter s g (take (outcome .count - 1) bytes) .part) (number (outcome .reply))
   pub within : outcome .count ≤ length bytes
@@ -24,20 +24,18 @@ pub record SliceTaken (s : State) (g bytes : List ℕ) (outcome : CallOutcome) :
   pub state : outcome .state ≡ stateAfter s g (take (outcome .count) bytes)
   pub grid : outcome .grid ≡ gridAfter s g (take (outcome .count) bytes)
 
--- What one call of a list returned, took and left; a is what the calls before it came to. Lent a grid of another length, it is refused
+-- What one call of a list returned, took and left; a is what the calls before it came to, z what they come to with it. Lent a grid of another length, it is refused
 -- with 1, takes nothing and leaves all as it was. Otherwise it is not refused: a byte call takes its byte, and its answer is the step's
-abbrev pub CallMade : After → Call → Type 0
-CallMade a (onGrid (byte b)) =
+abbrev pub CallMade : After → Call → After → Type 0
+CallMade a (onGrid (byte b)) z =
     let o = step (a .state) (a .grid) b in
     (ask (a .state) (a .grid) (byte b) ≡ record { reply = answered (a .state .part) (o .answer); count = 1; state = o .state; grid = o .grid })
-    × (next a (onGrid (byte b)) ≡ record { state = o .state; grid = o .grid; taken = a .taken ++ (b ∷ []); said = a .said ++ (o .answer ∷ []) })
-CallMade a (onGrid (slice bytes)) =
+    × (z ≡ record { state = o .state; grid = o .grid; taken = a .taken ++ (b ∷ []); said = a .said ++ (o .answer ∷ []) })
+CallMade a (onGrid (slice bytes)) z =
     let outcome = ask (a .state) (a .grid) (slice bytes) in
     SliceTaken (a .state) (a .grid) bytes outcome
-    × (next a (onGrid (slice bytes))
-    ≡ record { state = outcome .state; grid = outcome .grid; taken = a .taken ++ take (outcome .count) bytes; said = a .said ++ spread (outcome .count) (number (outcome .reply)) })
-CallMade a (elsewhere r grid other) =
-    (ask (a .state) grid r ≡ refuses 1 (a .state) grid) × (next a (elsewhere r grid other) ≡ a)
+    × (z ≡ record { state = outcome .state; grid = outcome .grid; taken = a .taken ++ take (outcome .count) bytes; said = a .said ++ spread (outcome .count) (number (outcome .reply)) })
+CallMade a (elsewhere r grid other) z = (ask (a .state) grid r ≡ refuses 1 (a .state) grid) × (z ≡ a)
 
 -- bytes that end with an undamaged part
 pub record EndsUndamaged (bytes : List ℕ) : Type 0 where
@@ -55,15 +53,18 @@ pub record WayBack (here : After) (before text rest : List ℕ) : Type 0 where
 
 -- What every list of calls comes to
 pub record Demand3 (calls : List Call) : Type 0 where
-  -- Each call of the list, with those before it
-  pub each : (earlier : List Call) (call : Call) (later : List Call) → calls ≡ earlier ++ (call ∷ later) → CallMade (received earlier) call
+  -- Before the first call: fresh, and nothing taken
+  pub begin : received [] ≡ record { state = fresh; grid = emptyGrid; taken = []; said = [] }
+  -- Each call of the list, from what those before it came to to what they come to with it
+  pub each : (earlier : List Call) (call : Call) (later : List Call) → calls ≡ earlier ++ (call ∷ later)
+      → CallMade (received earlier) call (received (earlier ++ (call ∷ [])))
   -- A start text is enough to find the way back: compared after each call
   pub wayBack : (earlier later : List Call) → calls ≡ earlier ++ later → (before text rest : List ℕ) → StartText text
       → received earlier .taken ≡ before ++ (text ++ rest) → WayBack (received earlier) before text rest
   -- A byte is answered 3, complete, exactly when the bytes up to it end with an undamaged part
   pub complete : (before : List ℕ) (b : ℕ) (rest : List ℕ) → received calls .taken ≡ before ++ (b ∷ rest)
       → (received calls .said ! length before ≡ 3) ↔ EndsUndamaged (before ++ (b ∷ []))
-  -- After the call that took its last byte, header, modes and grid are that part's
+  -- After the call that took its last byte, and as long as no further byte is taken, header, modes and grid are that part's
   pub held : (earlier later : List Call) → calls ≡ earlier ++ later → (before part : List ℕ) (u : UndamagedPart part)
       → received earlier .taken ≡ before ++ part
       → (received earlier .state .header ≡ partHeader (u .part)) × (received earlier .state .modes ≡ partModes (u .part)) × (received earlier .grid ≡ gridOf (u .part))

@@ -46,13 +46,13 @@ module _ (calls : List Call) (r : Request) (p : ℕ) (complete : ask (received c
 
   -- a byte was taken, and no more than there are
   some-taken : (1 ≤ outcome .count) × (outcome .count ≤ length (bytesOf r))
-  some-taken = counts r complete (demand-3 list .each calls (onGrid r) [] refl)
+  some-taken = counts r complete (received (calls ++ (onGrid r ∷ []))) (demand-3 list .each calls (onGrid r) [] refl)
     where
       counts : (r : Request) → ask (a .state) (a .grid) r .reply ≡ partComplete p
-          → Rattle.receiver_spec.specs.Demand3.CallMade a (onGrid r) → (1 ≤ ask (a .state) (a .grid) r .count) × (ask (a .state) (a .grid) r .count ≤ length (bytesOf r))
-      counts (byte b) e (made, next) = let one : ask (a .state) (a .grid) (byte b) .count ≡ 1 = ap (λ (o : CallOutcome). o .count) made in (omega (arith, one), omega (arith, one))
-      counts (slice bytes) e (made, next) =
-          (at-least-one _ (λ z. omega (arith, ap number (sym (made .none z) ∙ e))), made .within)
+          → (z : After) → Rattle.receiver_spec.specs.Demand3.CallMade a (onGrid r) z → (1 ≤ ask (a .state) (a .grid) r .count) × (ask (a .state) (a .grid) r .count ≤ length (bytesOf r))
+      counts (byte b) e z (made, here) = let one : ask (a .state) (a .grid) (byte b) .count ≡ 1 = ap (λ (o : CallOutcome). o .count) made in (omega (arith, one), omega (arith, one))
+      counts (slice bytes) e z (made, here) =
+          (at-least-one _ (λ none. omega (arith, ap number (sym (made .none none) ∙ e))), made .within)
 
   abbrev n : ℕ
   n = outcome .count - 1
