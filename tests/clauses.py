@@ -2,8 +2,9 @@
 
     python3 tests/clauses.py
 
-Every function, type and definition whose comment names a clause of the notice must be named on the page; every
-function and definition that the page names must exist, and where the page names its crate, in that crate.
+Every function, type and definition whose comment names a clause of the notice must be named on the page, in a row
+of that clause; every function and definition that the page names must exist, and where the page names its crate, in
+that crate; and its comment must name the clauses of the rows that name it, and no other.
 A function that is proved equal to a definition, and that definition, both name a clause or neither does.
 Prints how many there are, or what is missing, and then ends with status 1.
 """
@@ -19,14 +20,86 @@ SPEC = r"(?:abbrev|unfoldable) pub (\S+) :|pub (?:record|data) (\w+)"
 
 
 def declared(pattern, mark, item):
-    """(file, name, whether its comment names a clause) of what the files declare."""
+    """(file, name, its comment) of what the files declare; a comment holds for all that follows it up to a blank line."""
     for path in sorted(ROOT.glob(pattern)):
-        comment = []
+        comment, commenting = "", False
         for line in path.read_text(encoding="utf-8").splitlines():
             found = re.match(item, line)
             if found:
-                yield path.relative_to(ROOT), next(filter(None, found.groups())), "Notice 49" in " ".join(comment)
-            comment = comment + [line] if line.startswith(mark) else []
+                yield path.relative_to(ROOT), next(filter(None, found.groups())), comment
+            if line.startswith(mark):
+                comment = (comment + " " if commenting else "") + line.lstrip("-/ ")
+            elif not line:
+                comment = ""
+            commenting = line.startswith(mark)
+
+
+CLAUSE = re.compile(r"4\(1\)\(1-[12]\)(?:\([abcd]\))?(?:\([アイウエ]\))?|4\(2\)(?:\([abcd]\))?(?:\([アイウエ]\))?|5\(3\)\(3-[12]\)|5\([12]\)"
+                    r"|[12]\b(?:\([ab]\))?|3\b|\(3-2\)|\([ab]\)(?:\([アイウエ]\))?|\([cd]\)\([アイウエ]\)|\([アイウエ]\)")
+
+
+# The clauses at the beginning of a text, written out: "4(1)(1-1)(c)(イ) to (エ) and 5(1): ..." is four
+def clauses(text):
+    found, base, article = [], "", ""
+    while True:
+        joined = re.match(r" (to) | and |, |; ", text) if found else re.match("", text)
+        here = joined and CLAUSE.match(text, joined.end())
+        if not here:
+            return set(found)
+        clause = here[0]
+        if clause[0] == "4":
+            base, article = re.match(r"(4\(1\)\(1-.\)|4\(2\))(\(\w\))?", clause).groups("")
+        elif re.match(r"\([abcd]\)", clause):
+            article = clause[:3]
+            clause = base + clause
+        elif re.match(r"\([アイウエ]\)", clause):
+            clause = base + article + clause
+        elif clause == "(3-2)":
+            clause = "5(3)(3-2)"
+        if joined[0] == " to ":
+            letters = "アイウエ"
+            found += [f"{base}{article}({letter})" for letter in letters[letters.index(found[-1][-2]) + 1:letters.index(clause[-2])]]
+        found.append(clause)
+        text = text[here.end():]
+
+
+def clauses_beside(comment):
+    return set().union(*(clauses(rest) for rest in comment.split("Notice 49, ")[1:]))
+
+
+# (crate, name) -> the clauses of the rows that name it. A heading says which crate's names stand bare
+def clauses_on_page():
+    at, bare = {}, ("text", "text")
+    for row in PAGE.splitlines():
+        cells = [cell.strip() for cell in row.strip("|").split("|")]
+        if cells[0] == "Clause":
+            bare = [(re.search(r"\(`(\w+)`", heading) or [0, "text"])[1] for heading in cells[2:4]]
+        elif row.startswith("|") and clauses(cells[0]):
+            for cell, crate in zip(cells[2:4], bare):
+                for key in names_in(cell, crate):
+                    at.setdefault(key, set()).update(clauses(cells[0]))
+    return at
+
+
+def names_in(cell, bare):
+    for group in cell.split(";"):
+        placed_in = re.match(r"\s*`(\w+)`: (.*)", group)
+        crate, names = placed_in.groups() if placed_in else (bare, group)
+        for name in re.findall(r"`([\w.:]+)`", names):
+            first, last = re.split(r"::|\.", name)[0], re.split(r"::|\.", name)[-1]
+            yield first if (ROOT / "crates" / first).is_dir() else crate, last
+
+
+# What stands beside an item and not on the page, or on the page and not beside it
+def differences(items):
+    beside = {}
+    for path, name, comment in items:
+        beside.setdefault((path.parts[1], name), set()).update(clauses_beside(comment))
+    page = clauses_on_page()
+    for key in sorted(beside):
+        here, there = beside[key], page.get(key, set())
+        if here != there:
+            yield f"{key[0]}: {key[1]}: beside it alone {sorted(here - there)}, on the page alone {sorted(there - here)}"
 
 
 # The page writes a name in code type, behind its module where there is one; bytes have two digits
@@ -55,7 +128,8 @@ def equal():
 
 
 def main():
-    items = [*declared("crates/*/src/**/*.rt", "//", CODE), *declared("crates/*/specs/*.antt", "--", SPEC)]
+    declarations = [*declared("crates/*/src/**/*.rt", "//", CODE), *declared("crates/*/specs/*.antt", "--", SPEC)]
+    items = [(path, name, "Notice 49" in comment) for path, name, comment in declarations]
     governed = [(path, name) for path, name, clause in items if clause]
     missing = [f"{path}: {name} is not on the page" for path, name in governed if name not in named()]
     known = {name for _, name, _ in items} | {path.parent.name for path in ROOT.glob("crates/*/src")}
@@ -68,6 +142,7 @@ def main():
                 if name in defined and sides[path, function] != (name in under)]
     there = {(path.parts[1], name) for path, name, _ in items}
     missing += [f"the page names {name} in {crate}, which has none" for crate, name in sorted(set(placed()) - there)]
+    missing += differences(declarations)
     print("\n".join(missing) or f"{len(governed)} functions and definitions under clauses, all on the page")
     sys.exit(1 if missing else 0)
 

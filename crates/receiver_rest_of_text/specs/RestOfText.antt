@@ -33,7 +33,8 @@ byEntered s b e =
     (goesOn (state (s .seen) (s .frame) (e .header) (e .modes)) (advanced (s .frame) (s .frame .check ⊕ b)) Quiet (e .effect))
     (drops s 18)
 
--- it enters and the text goes on, or row 18. Notice 49, 4(1)(1-1)(d)(イ) and (ウ)
+-- it enters and the text goes on, or row 18.
+-- Notice 49, 4(1)(1-1)(c)(イ) to (エ), (d)(イ) and (ウ), 4(1)(1-2)(d)(ウ), 4(2)(d)(ウ)
 unfoldable pub blockDecided : State → ℕ → Decision
 blockDecided s b = byEntered s b (enteredHere s b)
 

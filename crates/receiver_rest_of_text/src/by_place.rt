@@ -13,7 +13,8 @@ ghost use mathlib.Core.Path.{_≡_};
 ghost use Prim.Native.Nat.{_<_};
 ghost use Rattle.receiver_rest_of_text.specs.RestOfText.{blockDecided, eorDecided, checkDecided, textDecided};
 
-// A block byte from byte 3 on. Row 18: it breaks its rule. Notice 49, 4(1)(1-1)(d)(イ) and (ウ)
+// A block byte from byte 3 on. Row 18: it breaks its rule.
+// Notice 49, 4(1)(1-1)(c)(イ) to (エ), (d)(イ) and (ウ), 4(1)(1-2)(d)(ウ), 4(2)(d)(ウ)
 fn block_decided(s: State, b: u8) -> Decision
     requires { ⌜ s .frame .place < 65535 ⌝ }
     ensures { λ r. ⌜ r ≡ blockDecided s b ⌝ }

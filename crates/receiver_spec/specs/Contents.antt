@@ -13,7 +13,7 @@ use Rattle.text.specs.declared.header.Header.{Header}
 
 -- ---- the start block, Notice 49, 4(1)(1-1)(c)(イ) and (d)(イ)
 
--- which of the twelve digits stands at a place of the time
+-- which of the twelve digits stands at a place of the time. Notice 49, 4(1)(1-1)(d)(イ)
 abbrev pub indexIn : ℕ → List ℕ → ℕ
 indexIn i [] = 0
 indexIn i (x ∷ xs) = cond (eqb i x) 0 (suc (indexIn i xs))
@@ -91,13 +91,14 @@ enterModes modes i b = cond (leb i 10) (set modes (i - 3) (modeOf b)) modes
 
 -- ---- the data block, Notice 49, 4(1)(1-1)(c)(エ) and (d)(ウ)
 
--- 01: data text k enters the grid from byte 2,000 × (k − 1)
+-- 01: data text k enters the grid from byte 2,000 × (k − 1). Notice 49, 4(1)(1-1)(c)(エ), 4(1)(1-2)(c)(エ), 4(2)(c)(エ)
 unfoldable pub enterGrid : List ℕ → ℕ → ℕ → ℕ → List ℕ
 enterGrid grid k i b = set grid (2000 * (k - 1) + (i - 3)) b
 
 -- ---- by kind
 
--- the rule of block byte i of a kind's block, given the header so far (01, row 18)
+-- the rule of block byte i of a kind's block, given the header so far (01, row 18).
+-- Notice 49, 4(1)(1-1)(c)(イ) to (エ), (d)(イ) and (ウ), 4(1)(1-2)(d)(ウ), 4(2)(d)(ウ)
 unfoldable pub takesByte : ℕ → Header → ℕ → ℕ → Bool
 takesByte kind h i b =
     cond (isStartKind kind) (startTakes h i b)

@@ -105,16 +105,18 @@ abbrev pub enteredGrid : State → List ℕ → ℕ → List ℕ
 enteredGrid s g b =
     cond (isStartKind (s .kind) || isEndKind (s .kind)) g (enterGrid g (textNumber (s .kind)) (s .place) b)
 
--- A later block byte. Row 18: it breaks its rule. Notice 49, 4(1)(1-1)(c)(イ) to (エ), 4(1)(1-2)(c)(エ), 4(2)(c)(エ)
+-- A later block byte. Row 18: it breaks its rule.
+-- Notice 49, 4(1)(1-1)(c)(イ) to (エ), (d)(イ) and (ウ), 4(1)(1-2)(d)(ウ), 4(2)(d)(ウ)
 unfoldable pub blockByte : State → List ℕ → List ℕ → ℕ → Step
 blockByte s g seen b =
     cond (takesByte (s .kind) (s .header) (s .place) b) (answers 0 (entered s seen b) (enteredGrid s g b)) (drops 18 seen)
 
--- Rows 19 and 20: not `FE`; wrong check byte. Notice 49, 4(1)(1-1)(c)(ア)
+-- Row 19: not `FE`. Notice 49, 4(1)(1-1)(c)(ア)
 unfoldable pub eorByte : State → List ℕ → List ℕ → ℕ → Step
 eorByte s g seen b =
     cond (eqb b EOR) (answers 0 (within s seen (suc (s .place)) (s .kind) (s .picture) (s .check ⊕ b)) g) (drops 19 seen)
 
+-- Row 20: wrong check byte. Notice 49, 4(1)(1-1)(c)(ア)
 unfoldable pub checkedByte : State → List ℕ → List ℕ → ℕ → Step
 checkedByte s g seen b =
     cond (eqb b (s .check)) (answers 0 (within s seen (suc (s .place)) (s .kind) (s .picture) (s .check)) g) (drops 20 seen)

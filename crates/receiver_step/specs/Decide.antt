@@ -59,7 +59,7 @@ kindRow f picture b =
     cond (not (isKind b)) 14
     (cond (eqb (f .part) 0 || not (eqb b (kindOf (f .part) (f .due)))) 16 (cond (eqb (f .picture) picture) 0 17))
 
--- block byte 2. Rows 14 to 17. Notice 49, 4(1)(1-1)(d)(イ) and (ウ)
+-- block byte 2. Rows 14 to 17. Notice 49, 4(1)(1-1)(d)(イ) and (ウ), 4(1)(1-2)(d)(イ) and (ウ), 4(2)(d)(イ) and (ウ)
 unfoldable pub kindDecided : State → ℕ → Decision
 kindDecided s b =
     let row = kindRow (s .frame) (s .header .picture) b in

@@ -64,7 +64,7 @@ fn start_decided(s: State, b: u8) -> Decision
 
 // The row that a byte meets as a data or end kind, 0 where it meets none. Row 14: no kind. Row 16: no
 // part open, or not the due kind. Row 17: another picture code than the start's.
-// Notice 49, 4(1)(1-1)(d)(イ) and (ウ)
+// Notice 49, 4(1)(1-1)(d)(イ) and (ウ), 4(1)(1-2)(d)(イ) and (ウ), 4(2)(d)(イ) and (ウ)
 fn kind_row(f: Frame, picture: u8, b: u8) -> u8
     ensures { λ r. ⌜ r ≡ kindRow f picture b ⌝ }
 {
@@ -80,7 +80,8 @@ fn kind_row(f: Frame, picture: u8, b: u8) -> u8
     0
 }
 
-// Block byte 2. Rows 14 to 17. Notice 49, 4(1)(1-1)(d)(イ) and (ウ)
+// Block byte 2. Rows 14 to 17.
+// Notice 49, 4(1)(1-1)(d)(イ) and (ウ), 4(1)(1-2)(d)(イ) and (ウ), 4(2)(d)(イ) and (ウ)
 pub(crate) fn kind_decided(s: State, b: u8) -> Decision
     ensures { λ r. ⌜ r ≡ kindDecided s b ⌝ }
 {

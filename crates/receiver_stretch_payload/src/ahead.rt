@@ -35,7 +35,7 @@ fn is_in_payload(f: Frame) -> bool
 }
 
 // Where the next payload byte enters the grid: data text k from byte 2,000 × (k − 1).
-// Notice 49, 4(1)(1-1)(d)(ウ)
+// Notice 49, 4(1)(1-1)(c)(エ), 4(1)(1-2)(c)(エ), 4(2)(c)(エ)
 fn payload_base(f: Frame) -> usize
     requires { ⌜ isInPayload f ≡ true ⌝ }
     ensures { λ r. ⌜ r ≡ 2000 * (textNumber (f .kind) - 1) + (f .place - 3) ⌝ }

@@ -27,7 +27,8 @@ longest = 2011
 unfoldable pub remainder : State → ℕ
 remainder s = blockLength (s .kind) + 3 - s .place
 
--- 01: 2 for an impossible state, 0 at place 0, and else a number between bounds
+-- 01: 2 for an impossible state, 0 at place 0, and else a number between bounds.
+-- Notice 49, 4(1)(1-1)(b), 4(1)(1-2)(b), 4(2)(b)
 pub data IsBytesLeft (s : State) : LeftAnswer → Type 0 where
   impossible : isPossible s ≡ false → IsBytesLeft s (refused 2)
   between : isPossible s ≡ true → s .place ≡ 0 → IsBytesLeft s (bytesLeft 0)

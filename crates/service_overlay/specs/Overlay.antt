@@ -19,6 +19,7 @@ pub record OverlayOutcome : Type 0 where
   pub answer : ServiceAnswer
   pub grid : List ℕ
 
+-- rows 42 and 43, and else mesh by mesh the higher. Notice 49, 4(1)(1-1)(d)(ウ)
 unfoldable pub overlaid : List ℕ → List ℕ → List ℕ → OverlayOutcome
 overlaid a b c =
     cond (not (isGrid a && isGrid b && isGrid c)) (record { answer = refused 42; grid = c })

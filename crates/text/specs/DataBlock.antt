@@ -13,18 +13,21 @@ use Rattle.text.specs.Kinds.{isDataKind, partOf, blockLength}
 unfoldable pub oddLevel : ℕ → ℕ
 oddLevel b = b / 16
 
+-- the even one. Notice 49, 4(1)(1-1)(d)(ウ)
 unfoldable pub evenLevel : ℕ → ℕ
 evenLevel b = b % 16
 
 -- Data text k (1 to 10) has meshes 4,000 × (k − 1) + 1 to 4,000 × k: these two are in its payload byte i, counted from 0.
--- Notice 49, 4(1)(1-1)(c)(エ); where meshes lie on the map, (d)(エ), is outside 01
+-- Notice 49, 4(1)(1-1)(c)(エ), whose table shows text 1: that text k goes on from text k − 1 is 01's rule.
+-- Where meshes lie on the map, (d)(エ), is outside 01
 unfoldable pub oddMesh : ℕ → ℕ → ℕ
 oddMesh k i = 4000 * (k - 1) + (2 * i + 1)
 
+-- the even one. Notice 49, 4(1)(1-1)(c)(エ)
 unfoldable pub evenMesh : ℕ → ℕ → ℕ
 evenMesh k i = 4000 * (k - 1) + (2 * i + 2)
 
--- Levels 0 to 14. Notice 49, 5(3)(3-1)
+-- Levels 0 to 14. Notice 49, 4(1)(1-1)(d)(ウ) and 5(3)(3-1)
 unfoldable pub isIntensityByte : ℕ → Bool
 isIntensityByte b = leb (oddLevel b) 14 && leb (evenLevel b) 14
 
@@ -40,6 +43,7 @@ isQualityByte b = leb b 0x3F || eqb b 0x40
 unfoldable pub isPayloadByte : ℕ → ℕ → Bool
 isPayloadByte p b = cond (eqb p 1) (isIntensityByte b) (cond (eqb p 2) (isTopByte b) (cond (eqb p 3) (isQualityByte b) false))
 
+-- The payload of a data block, from byte 3 on. Notice 49, 4(1)(1-1)(c)(エ), 4(1)(1-2)(c)(エ), 4(2)(c)(エ)
 abbrev pub payloadOf : List ℕ → List ℕ
 payloadOf block = drop 3 block
 

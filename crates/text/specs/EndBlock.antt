@@ -20,7 +20,7 @@ unfoldable pub isModeByte : ℕ → ℕ → Bool
 isModeByte radar b = cond (eqb radar 0) (eqb b 0) (hasMode b)
 
 -- An end block for these radars, in place: bytes 3 to 10 are theirs, bytes 11 to 31 are `00`.
--- Notice 49, 4(1)(1-1)(c)(ウ) and (d)(イ); 4(1)(1-2) and 4(2) refer to these
+-- Notice 49, 4(1)(1-1)(c)(ウ) and (d)(イ). 4(1)(1-2) and 4(2) refer to these
 unfoldable pub isEndBlock : List ℕ → List ℕ → Bool
 isEndBlock radars block =
     allOf (
@@ -32,7 +32,7 @@ isEndBlock radars block =
     ∷ every (λ b. eqb b 0x00) (drop 11 block)
     ∷ [])
 
--- 01: a part's modes are those of its end block, by place, 0 where there is no radar. Notice 49, 4(1)(1-1)(d)(イ)
+-- 01: a part's modes are those of its end block, by place, 0 where there is no radar. Notice 49, 4(1)(1-1)(c)(ウ) and (d)(イ)
 unfoldable pub modesOf : List ℕ → List ℕ
 modesOf block = map (λ i. modeOf (block ! (3 + i))) radarPlaces
 

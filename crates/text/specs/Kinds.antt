@@ -39,27 +39,28 @@ byText p t (k ∷ ks) = cond (eqb p (k .part) && eqb t (k .text)) k (byText p t 
 unfoldable pub isPartNumber : ℕ → Bool
 isPartNumber p = leb 1 p && leb p 3
 
--- The part of a kind, 0 where b is no kind. Notice 49, 4(1)(1-1)(d)(イ) and (ウ)
+-- The part of a kind, 0 where b is no kind. Notice 49, 4(1)(1-1)(d)(イ) and (ウ), 4(1)(1-2)(d)(イ) and (ウ), 4(2)(d)(イ) and (ウ)
 unfoldable pub partOf : ℕ → ℕ
 partOf b = byCode b kinds .part
 
--- The text number of a kind, 0 for a start kind and where b is no kind. Notice 49, 4(1)(1-1)(d)(イ) and (ウ)
+-- The text number of a kind, 0 for a start kind and where b is no kind.
+-- Notice 49, 4(1)(1-1)(d)(イ) and (ウ), 4(1)(1-2)(d)(イ) and (ウ), 4(2)(d)(イ) and (ウ)
 unfoldable pub textNumber : ℕ → ℕ
 textNumber b = byCode b kinds .text
 
--- The kind of text t of part p, 0 where there is none. Notice 49, 4(1)(1-1)(d)(イ) and (ウ)
+-- The kind of text t of part p, 0 where there is none. Notice 49, 4(1)(1-1)(d)(イ) and (ウ), 4(1)(1-2)(d)(イ) and (ウ), 4(2)(d)(イ) and (ウ)
 unfoldable pub kindOf : ℕ → ℕ → ℕ
 kindOf p t = byText p t kinds .code
 
--- One of the 18 kinds. Notice 49, 4(1)(1-1)(d)(イ) and (ウ)
+-- One of the 18 kinds. Notice 49, 4(1)(1-1)(d)(イ) and (ウ), 4(1)(1-2)(d)(イ) and (ウ), 4(2)(d)(イ) and (ウ)
 unfoldable pub isKind : ℕ → Bool
 isKind b = not (eqb (partOf b) 0)
 
--- A start kind. Notice 49, 4(1)(1-1)(d)(イ)
+-- A start kind. Notice 49, 4(1)(1-1)(d)(イ), 4(1)(1-2)(d)(イ), 4(2)(d)(イ)
 unfoldable pub isStartKind : ℕ → Bool
 isStartKind b = isKind b && eqb (textNumber b) 0
 
--- An end kind. Notice 49, 4(1)(1-1)(d)(イ)
+-- An end kind. Notice 49, 4(1)(1-1)(d)(イ), 4(1)(1-2)(d)(イ), 4(2)(d)(イ)
 unfoldable pub isEndKind : ℕ → Bool
 isEndKind b = isKind b && eqb (textNumber b) 11
 
@@ -71,7 +72,7 @@ isDataKind b = isKind b && not (eqb (textNumber b) 0 || eqb (textNumber b) 11)
 unfoldable pub dataBlockLength : ℕ → ℕ
 dataBlockLength p = cond (eqb p 1) 2003 (cond (eqb p 2) 403 (cond (eqb p 3) 103 0))
 
--- The length of a kind's block, 0 where b is no kind. Start and end blocks: Notice 49, 4(1)(1-1)(b)(ア) and (ウ)
+-- The length of a kind's block, 0 where b is no kind. Notice 49, 4(1)(1-1)(b)(ア) to (ウ), 4(1)(1-2)(b)(イ), 4(2)(b)(イ)
 unfoldable pub blockLength : ℕ → ℕ
 blockLength b = cond (isDataKind b) (dataBlockLength (partOf b)) (cond (isKind b) 32 0)
 

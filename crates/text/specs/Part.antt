@@ -43,6 +43,7 @@ unfoldable pub textsOf : List (List ℕ) → List ℕ
 textsOf [] = []
 textsOf (block ∷ blocks) = textOf block ++ textsOf blocks
 
+-- The bytes of a part: its texts with nothing between. Notice 49, 4(1)(1-1)(a), 4(1)(1-2)(a), 4(2)(a)
 unfoldable pub partBytes : Part → List ℕ
 partBytes p = textOf (p .start) ++ (textsOf (p .datas) ++ textOf (p .end))
 
@@ -62,7 +63,8 @@ startPart start = partOf (start ! 2)
 abbrev pub dataTextsAfter : List ℕ → ℕ
 dataTextsAfter start = dataTexts (startPart start) (noEchoOf (start ! 4))
 
--- The rules of a part: start, data texts in order, end, with one picture code; NO ECHO; status 2 is the highest mode
+-- The rules of a part: start, data texts in order, end, with one picture code; NO ECHO; status 2 is the highest mode.
+-- Notice 49, 4(1)(1-1)(a) and (d)(イ), 4(1)(1-2)(a), 4(2)(a)
 unfoldable pub isPart : Part → Bool
 isPart p =
     allOf (

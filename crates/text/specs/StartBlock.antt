@@ -14,8 +14,7 @@ use Rattle.text.specs.declared.header.Header.{Header}
 unfoldable pub noEchoOf : ℕ → Bool
 noEchoOf status1 = bit status1 3
 
--- The mode of a byte with mode bits (status 2, and the end block's bytes): bit 2 is mode 1, bit 4 mode 2, bit 6 mode 3,
--- and exactly one of these is set; 0 where that is not so. No other bit has a meaning. Notice 49, 4(1)(1-1)(d)(イ)
+-- Which of three bits is set, where exactly one is; 0 where that is not so. Notice 49, 4(1)(1-1)(d)(イ)
 abbrev pub oneOf : Bool → Bool → Bool → ℕ
 oneOf true false false = 1
 oneOf false true false = 2
@@ -26,7 +25,8 @@ oneOf true false true = 0
 oneOf false true true = 0
 oneOf true true true = 0
 
--- The mode of a byte with mode bits; 0 unless exactly one of the three is set. Notice 49, 4(1)(1-1)(d)(イ)
+-- The mode of a byte with mode bits (status 2, and the end block's bytes): bit 2 is mode 1, bit 4 mode 2, bit 6 mode 3,
+-- and exactly one of these is set; 0 where that is not so. No other bit has a meaning. Notice 49, 4(1)(1-1)(d)(イ)
 unfoldable pub modeOf : ℕ → ℕ
 modeOf b = oneOf (bit b 2) (bit b 4) (bit b 6)
 
@@ -45,6 +45,7 @@ isClockByte b = leb b 0x7F
 unfoldable pub clockOf : ℕ → ℕ → ℕ
 clockOf high low = high * 128 + low
 
+-- The two bytes of a clock. Notice 49, 4(1)(1-1)(d)(イ)
 unfoldable pub clockBytes : ℕ → List ℕ
 clockBytes clock = clock / 128 ∷ clock % 128 ∷ []
 
@@ -61,14 +62,14 @@ unfoldable pub isMoment : ℕ → ℕ → ℕ → ℕ → ℕ → Bool
 isMoment y m d h n =
     allOf (leb y 9999 ∷ leb 1 m ∷ leb m 12 ∷ leb 1 d ∷ leb d (daysIn y m) ∷ leb h 23 ∷ leb n 59 ∷ [])
 
--- The same of the twelve digits YYYYMMDDhhmm, each 0 to 9. Notice 49, 4(1)(1-1)(d)(イ)
+-- The year of the twelve digits YYYYMMDDhhmm. Notice 49, 4(1)(1-1)(d)(イ)
 unfoldable pub yearOf : List ℕ → ℕ
 yearOf ds = ds ! 0 * 1000 + ds ! 1 * 100 + ds ! 2 * 10 + ds ! 3
 
 abbrev pub twoDigits : ℕ → ℕ → ℕ
 twoDigits tens ones = tens * 10 + ones
 
--- Twelve digits, YYYYMMDDhhmm, that give a date and time. Notice 49, 4(1)(1-1)(d)(イ)
+-- Twelve digits, YYYYMMDDhhmm, each 0 to 9, that give a date and time. Notice 49, 4(1)(1-1)(d)(イ)
 unfoldable pub isTime : List ℕ → Bool
 isTime ds =
     every (λ d. leb d 9) ds
@@ -88,6 +89,7 @@ isDigit char = leb 0x30 char && leb char 0x39
 unfoldable pub digitsOf : List ℕ → List ℕ
 digitsOf chars = map (λ i. chars ! i - 0x30) digitPlaces
 
+-- The time in ASCII, `YYYY.MM.DD.hh.mm`, of a moment that there is. Notice 49, 4(1)(1-1)(d)(イ)
 unfoldable pub isTimeText : List ℕ → Bool
 isTimeText chars =
     allOf (
@@ -119,13 +121,15 @@ isRadarList rs = allOf (leb (length rs) 8 ∷ not (eqb (rs ! 0) 0) ∷ rising 0 
 unfoldable pub follows : ℕ → ℕ → Bool
 follows before r = eqb r 0 || isRadarCode r && not (eqb before 0) && ltb before r
 
--- A start block. Notice 49, 4(1)(1-1)(c)(イ) and (d)(イ); 4(1)(1-2) and 4(2) refer to these
+-- Where time and radars stand. Notice 49, 4(1)(1-1)(c)(イ)
 abbrev pub timeTextOf : List ℕ → List ℕ
 timeTextOf block = take 16 (drop 8 block)
 
+-- the radars. Notice 49, 4(1)(1-1)(c)(イ)
 abbrev pub radarsOf : List ℕ → List ℕ
 radarsOf block = take 8 (drop 24 block)
 
+-- A start block. Notice 49, 4(1)(1-1)(c)(イ) and (d)(イ). 4(1)(1-2) and 4(2) refer to these
 unfoldable pub isStartBlock : List ℕ → Bool
 isStartBlock block =
     allOf (
@@ -141,7 +145,7 @@ isStartBlock block =
     ∷ isRadarList (radarsOf block)
     ∷ [])
 
--- 01: a part's header is what its start block gives. Notice 49, 4(1)(1-1)(d)(イ)
+-- 01: a part's header is what its start block gives. Notice 49, 4(1)(1-1)(c)(イ) and (d)(イ)
 unfoldable pub headerOf : List ℕ → Header
 headerOf block =
     record {

@@ -21,7 +21,7 @@ pub fn xor_all(block: &[u8]) -> u8
 }
 
 // The check byte, BCC: the exclusive or of all block bytes and the `FE`, which comes in last.
-// Notice 49, 4(1)(1-1)(c)(ア)
+// Notice 49, 1 and 4(1)(1-1)(c)(ア)
 pub fn check_byte(block: &[u8]) -> u8
     ensures { λ r. ⌜ r ≡ checkByte (now (block .entry)) ⌝ }
 {

@@ -74,7 +74,7 @@ fn modes_of(block: &[u8]) -> [u8; 8]
 }
 
 // Reads an end block for these radars: its modes, where it keeps every rule.
-// Notice 49, 4(1)(1-1)(c)(ウ) and (d)(イ); 4(1)(1-2) and 4(2) refer to these
+// Notice 49, 4(1)(1-1)(c)(ウ) and (d)(イ). 4(1)(1-2) and 4(2) refer to these
 pub fn read_end(radars: [u8; 8], block: &[u8]) -> EndRead
     ensures { λ r. ⌜ r ≡ endRead radars (now (block .entry)) ⌝ }
 {

@@ -22,7 +22,7 @@ pub fn writer_header_of(header: Header) -> WriterHeader
     }
 }
 
-// Whether a header keeps every rule of a start block (01, row 32). Notice 49, 4(1)(1-1)(c)(イ)
+// Whether a header keeps every rule of a start block (01, row 32). Notice 49, 4(1)(1-1)(c)(イ) and (d)(イ)
 pub fn is_writer_header(header: WriterHeader) -> bool
     ensures { λ r. ⌜ r ≡ isWriterHeader header ⌝ }
 {

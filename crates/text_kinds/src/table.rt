@@ -4,7 +4,8 @@
 ghost use mathlib.Core.Path.{_≡_};
 ghost use Rattle.text.specs.Kinds.{isKind, isStartKind, isEndKind, partOf, textNumber, kindOf};
 
-// Whether a byte is one of the 18 kinds. Notice 49, 4(1)(1-1)(d)(イ) and (ウ)
+// Whether a byte is one of the 18 kinds.
+// Notice 49, 4(1)(1-1)(d)(イ) and (ウ), 4(1)(1-2)(d)(イ) and (ウ), 4(2)(d)(イ) and (ウ)
 pub fn is_kind(b: u8) -> bool
     ensures { λ r. ⌜ r ≡ isKind b ⌝ }
 {
@@ -14,14 +15,16 @@ pub fn is_kind(b: u8) -> bool
     ((part == 1) & (marks | (low <= 10))) | (((part == 2) | (part == 3)) & marks)
 }
 
-// The part of a kind; 0 where the byte is no kind. Notice 49, 4(1)(1-1)(d)(イ) and (ウ)
+// The part of a kind; 0 where the byte is no kind.
+// Notice 49, 4(1)(1-1)(d)(イ) and (ウ), 4(1)(1-2)(d)(イ) and (ウ), 4(2)(d)(イ) and (ウ)
 pub fn part_of_kind(b: u8) -> u8
     ensures { λ r. ⌜ r ≡ partOf b ⌝ }
 {
     if is_kind(b) { b / 16 } else { 0 }
 }
 
-// The text number of a kind; 0 where the byte is no kind. Notice 49, 4(1)(1-1)(d)(イ) and (ウ)
+// The text number of a kind; 0 where the byte is no kind.
+// Notice 49, 4(1)(1-1)(d)(イ) and (ウ), 4(1)(1-2)(d)(イ) and (ウ), 4(2)(d)(イ) and (ウ)
 pub fn text_of_kind(b: u8) -> u8
     ensures { λ r. ⌜ r ≡ textNumber b ⌝ }
 {
@@ -33,21 +36,22 @@ pub fn text_of_kind(b: u8) -> u8
     }
 }
 
-// Whether a byte is a start kind. Notice 49, 4(1)(1-1)(d)(イ)
+// Whether a byte is a start kind. Notice 49, 4(1)(1-1)(d)(イ), 4(1)(1-2)(d)(イ), 4(2)(d)(イ)
 pub fn is_start_kind(kind: u8) -> bool
     ensures { λ r. ⌜ r ≡ isStartKind kind ⌝ }
 {
     is_kind(kind) & (text_of_kind(kind) == 0)
 }
 
-// Whether a byte is an end kind. Notice 49, 4(1)(1-1)(d)(イ)
+// Whether a byte is an end kind. Notice 49, 4(1)(1-1)(d)(イ), 4(1)(1-2)(d)(イ), 4(2)(d)(イ)
 pub fn is_end_kind(kind: u8) -> bool
     ensures { λ r. ⌜ r ≡ isEndKind kind ⌝ }
 {
     is_kind(kind) & (text_of_kind(kind) == 11)
 }
 
-// The kind of text `text` of part `part`; 0 where there is none. Notice 49, 4(1)(1-1)(d)(イ) and (ウ)
+// The kind of text `text` of part `part`; 0 where there is none.
+// Notice 49, 4(1)(1-1)(d)(イ) and (ウ), 4(1)(1-2)(d)(イ) and (ウ), 4(2)(d)(イ) and (ウ)
 pub fn kind_of(part: u8, text: u8) -> u8
     ensures { λ r. ⌜ r ≡ kindOf part text ⌝ }
 {

@@ -20,7 +20,8 @@ pub fn data_block_length(part: u8) -> u16
     0
 }
 
-// The length of a kind's block; 0 where the byte is no kind. Notice 49, 4(1)(1-1)(b)
+// The length of a kind's block; 0 where the byte is no kind.
+// Notice 49, 4(1)(1-1)(b)(ア) to (ウ), 4(1)(1-2)(b)(イ), 4(2)(b)(イ)
 pub fn block_length(b: u8) -> u16
     ensures { λ r. ⌜ r ≡ blockLength b ⌝ }
 {

@@ -133,7 +133,7 @@ fn is_start_front(block: &[u8]) -> bool
 }
 
 // Reads a start block: its header, where it keeps every rule.
-// Notice 49, 4(1)(1-1)(c)(イ) and (d)(イ); 4(1)(1-2) and 4(2) refer to these
+// Notice 49, 4(1)(1-1)(c)(イ) and (d)(イ). 4(1)(1-2) and 4(2) refer to these
 pub fn read_start(block: &[u8]) -> StartRead
     ensures { λ r. ⌜ r ≡ startRead (now (block .entry)) ⌝ }
 {
