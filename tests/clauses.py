@@ -5,7 +5,8 @@
 Every function, type and definition whose comment names a clause of the notice must be named on the page, in a row
 of that clause; every function and definition that the page names must exist, and where the page names its crate, in
 that crate; and its comment must name the clauses of the rows that name it, and no other.
-A function that is proved equal to a definition, and that definition, both name a clause or neither does.
+A function and the definition that its contract says it equals name the same clauses, and so do a definition of the
+code and the one of `receiver_spec` that a proof says it means.
 Prints how many there are, or what is missing, and then ends with status 1.
 """
 
@@ -67,7 +68,8 @@ def clauses_beside(comment):
     return set().union(*(clauses(rest) for rest in comment.split("Notice 49, ")[1:]))
 
 
-# (crate, name) -> the clauses of the rows that name it. A heading says which crate's names stand bare
+# (suffix, crate, name) -> the clauses of the rows that name it, in the column of definitions or of functions.
+# A heading says which crate's names stand bare
 def clauses_on_page():
     at, bare = {}, ("text", "text")
     for row in PAGE.splitlines():
@@ -75,9 +77,9 @@ def clauses_on_page():
         if cells[0] == "Clause":
             bare = [(re.search(r"\(`(\w+)`", heading) or [0, "text"])[1] for heading in cells[2:4]]
         elif row.startswith("|") and clauses(cells[0]):
-            for cell, crate in zip(cells[2:4], bare):
+            for suffix, cell, crate in zip((".antt", ".rt"), cells[2:4], bare):
                 for key in names_in(cell, crate):
-                    at.setdefault(key, set()).update(clauses(cells[0]))
+                    at.setdefault((suffix, *key), set()).update(clauses(cells[0]))
     return at
 
 
@@ -90,16 +92,21 @@ def names_in(cell, bare):
             yield first if (ROOT / "crates" / first).is_dir() else crate, last
 
 
-# What stands beside an item and not on the page, or on the page and not beside it
-def differences(items):
+# (suffix, crate, name) -> the clauses beside it
+def clauses_of(items):
     beside = {}
     for path, name, comment in items:
-        beside.setdefault((path.parts[1], name), set()).update(clauses_beside(comment))
+        beside.setdefault((path.suffix, path.parts[1], name), set()).update(clauses_beside(comment))
+    return beside
+
+
+# What stands beside an item and not on the page, or on the page and not beside it
+def differences(beside):
     page = clauses_on_page()
-    for key in sorted(beside):
-        here, there = beside[key], page.get(key, set())
+    for key in sorted(beside.keys() | page.keys()):
+        here, there = beside.get(key, set()), page.get(key, set())
         if here != there:
-            yield f"{key[0]}: {key[1]}: beside it alone {sorted(here - there)}, on the page alone {sorted(there - here)}"
+            yield f"{key[1]}: {key[2]}, {key[0]}: beside it alone {sorted(here - there)}, on the page alone {sorted(there - here)}"
 
 
 # The page writes a name in code type, behind its module where there is one; bytes have two digits
@@ -115,16 +122,45 @@ def placed():
             yield from ((crate, re.split(r"::|\.", name)[-1]) for name in re.findall(r"`([\w.:]+)`", names))
 
 
-# (file, function, definition) for each contract that says what is returned by one definition; `every` is a word
-# of lists, which no clause governs
+# name -> the crate that defines it, of the definitions that a file uses
+def crates_of(text):
+    used = re.findall(r"use Rattle·(\w+)(?:·\w+)?\.specs[\w.·]*\.\{([^}]*)\}", text)
+    return {name: crate for crate, names in used for name in names.split(", ")}
+
+
+# The definition that a contract is about: what the result, read by a definition or not, or a lent slice at its exit
+# equals; how many bytes are waited for; or one that has the function's own name, as `payloadAhead` of `payload_ahead`
+READ = r"(?:\w+ )?r(?: \(now \(\w+ \.exit\)\))? ≡ |now \(\w+ \.exit\) ≡ |Waited s \("
+
+
+def definitions_in(contract, function):
+    plain = function.replace("_", "")
+    own = [name for name in re.findall(r"\w+", contract) if name.lower() in (plain, "is" + plain)]
+    return {*re.findall(rf"^(?:{READ})(\w+)", contract), *own}
+
+
+# The keys of a function and a definition, for each contract that says that they are equal. The words of lists, and
+# `run`, which takes bytes one by one, are left out: no clause governs them
 def equal():
     for path in sorted(ROOT.glob("crates/*/src/**/*.rt")):
-        function = ""
-        for line in path.read_text(encoding="utf-8").splitlines():
+        text, function = path.read_text(encoding="utf-8"), ""
+        crates = crates_of(text)
+        for line in text.splitlines():
             function = (re.match(CODE, line) or [None, function])[1]
-            found = re.search(r"ensures \{ λ r\. ⌜ r ≡ (?!every\b)(\w+)", line)
-            if found:
-                yield path.relative_to(ROOT), function, found[1]
+            contract = re.match(r" *ensures \{ λ r\. ⌜ (.*) ⌝ \}", line)
+            for name in sorted(definitions_in(contract[1], function)) if contract else ():
+                if name in crates and crates[name] != "general_laws" and name != "run":
+                    yield (".rt", path.relative_to(ROOT).parts[1], function), (".antt", crates[name], name)
+
+
+# The keys of two definitions, for each law that says what one of the code means
+def meant():
+    for path in sorted(ROOT.glob("crates/receiver_*/proofs/**/*.antt")):
+        text = path.read_text(encoding="utf-8")
+        crates = crates_of(text)
+        for name, other in re.findall(r"(?:Means|meaning) g b \((\w+) .*\) (?:\(R\.|≡ )(\w+)", text):
+            if name in crates:
+                yield (".antt", crates[name], name), (".antt", "receiver_spec", other)
 
 
 def main():
@@ -135,14 +171,12 @@ def main():
     known = {name for _, name, _ in items} | {path.parent.name for path in ROOT.glob("crates/*/src")}
     modules = {path.stem for path in ROOT.glob("crates/*/s*/**/*.*")}
     missing += [f"the page names {name}, which is not there" for name in sorted(named() - known - modules)]
-    under = {name for _, name, clause in items if clause}
-    defined = {name for path, name, _ in items if path.suffix == ".antt"}
-    sides = {(path, name): clause for path, name, clause in items}
-    missing += [f"{path}: {function} and {name}: a clause beside one of them alone" for path, function, name in equal()
-                if name in defined and sides[path, function] != (name in under)]
-    there = {(path.parts[1], name) for path, name, _ in items}
+    beside = clauses_of(declarations)
+    there = {key[1:] for key in beside}
     missing += [f"the page names {name} in {crate}, which has none" for crate, name in sorted(set(placed()) - there)]
-    missing += differences(declarations)
+    missing += differences(beside)
+    missing += [f"{a[1]}: {a[2]} and {b[1]}: {b[2]}: beside one of them alone {sorted(beside[a] ^ beside[b])}"
+                for a, b in dict.fromkeys([*equal(), *meant()]) if b in beside and beside[a] != beside[b]]
     print("\n".join(missing) or f"{len(governed)} functions and definitions under clauses, all on the page")
     sys.exit(1 if missing else 0)
 

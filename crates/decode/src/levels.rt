@@ -61,8 +61,8 @@ fn refused_line(out: &mut Buffer, used: usize, level: u8, row: u8) -> usize {
 
 // A complete part's grid is not refused: it has its 20,000 bytes and no level 15
 fn intensity_line(out: &mut Buffer, used: usize, grid: &[u8], level: u8) -> usize {
-    let answerOf = meshes_at(grid, level);
-    match answerOf {
+    let found = meshes_at(grid, level);
+    match found {
         MeshResult::Value(n) => level_line(out, used, level, n as usize, &RAIN),
         MeshResult::Refused(row) => refused_line(out, used, level, row),
     }

@@ -9,7 +9,7 @@ use crate::line::put_number;
 // Bits 0 to 5, each by the place of its cause. Notice 49, 4(2)(d)(ウ)
 const CAUSES: [u8; 6] = [0x01, 0x02, 0x04, 0x08, 0x10, 0x20];
 
-// What bit 6 alone says
+// What bit 6 alone says: the cause is unknown. Notice 49, 4(2)(d)(ウ)
 const UNKNOWN: u8 = 0x40;
 
 // The number of a cause, where its bit is set

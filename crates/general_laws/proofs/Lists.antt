@@ -6,8 +6,8 @@ use Prim.Native.Nat.{ℕ, suc, _+_, _-_, _≤_, _<_, zero}
 use native.Mathlib.Nat.{add-zero}
 use native.Mathlib.Numerals.{add-one}
 use native.Mathlib.Omega.{arith}
-use lib.ListN.{length, getD, set, take, drop}
-use lib.Seq.{sets, take-suc, length-take-le, drop-cons}
+use lib.ListN.{length, getD, set, take, drop, length-drop}
+use lib.Seq.{sets, take-suc, take-all, length-take-le, drop-cons}
 use borrow.Author.Tests.{le-leb}
 use Rattle.general_laws.specs.Bytes.{every, putAt}
 
@@ -70,3 +70,7 @@ bytes-front zero xs small j = omega arith
 bytes-front (suc n) [] small j = omega arith
 bytes-front (suc n) (x ∷ xs) small zero = small 0
 bytes-front (suc n) (x ∷ xs) small (suc j) = bytes-front n xs (λ i. small (suc i)) j
+
+-- all bytes from place i on
+pub rest-is : (bytes : List ℕ) (i : ℕ) → take (length bytes - i) (drop i bytes) ≡ drop i bytes
+rest-is bytes i = take-all (length bytes - i) (drop i bytes) (omega (arith, length-drop i bytes))

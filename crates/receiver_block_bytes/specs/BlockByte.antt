@@ -11,7 +11,7 @@ use Rattle.receiver_state.specs.declared.grid.Effect.the-variants.{Keep, Enter}
 use Rattle.receiver_block_bytes.specs.declared.byte.EnterResult.{EnterResult}
 
 -- within the block, from byte 3 on, and its rule is kept (01, row 18).
--- Notice 49, 4(1)(1-1)(c)(イ) to (エ), (d)(イ) and (ウ), 4(1)(1-2)(d)(ウ), 4(2)(d)(ウ)
+-- Notice 49, 4(1)(1-1)(c)(イ) to (エ), (d)(イ) and (ウ), 4(1)(1-2)(c)(エ) and (d)(ウ), 4(2)(c)(エ) and (d)(ウ)
 unfoldable pub isTaken : ℕ → Header → ℕ → ℕ → Bool
 isTaken kind h i b = leb 3 i && ltb i (blockLength kind) && takesByte kind h i b
 
@@ -19,7 +19,7 @@ abbrev pub leaves : Bool → Header → List ℕ → Effect → EnterResult
 leaves kept h m e = record { kept = kept; header = h; modes = m; effect = e }
 
 -- where it enters: header, modes, or the grid, data text k from byte 2,000 × (k − 1).
--- Notice 49, 4(1)(1-1)(c)(イ) to (エ), 4(1)(1-2)(c)(エ), 4(2)(c)(エ)
+-- Notice 49, 4(1)(1-1)(c)(イ) to (エ), (d)(イ), 4(1)(1-2)(c)(エ), 4(2)(c)(エ)
 unfoldable pub enters : ℕ → Header → List ℕ → ℕ → ℕ → EnterResult
 enters kind h m i b =
     cond (isStartKind kind) (leaves true (enterHeader h i b) m Keep)
@@ -27,6 +27,6 @@ enters kind h m i b =
     (leaves true h m (Enter (2000 * (textNumber kind - 1) + (i - 3)))))
 
 -- a byte that keeps its rule enters; header and modes are as they were where it does not.
--- Notice 49, 4(1)(1-1)(c)(イ) to (エ), 4(1)(1-2)(c)(エ), 4(2)(c)(エ)
+-- Notice 49, 4(1)(1-1)(c)(イ) to (エ), (d)(イ) and (ウ), 4(1)(1-2)(c)(エ) and (d)(ウ), 4(2)(c)(エ) and (d)(ウ)
 unfoldable pub entered : ℕ → Header → List ℕ → ℕ → ℕ → EnterResult
 entered kind h m i b = cond (isTaken kind h i b) (enters kind h m i b) (leaves false h m Keep)

@@ -28,7 +28,8 @@ pub struct EnterResult {
 }
 
 // Whether a byte lies within the block, from byte 3 on, and keeps its rule: by start, end or data
-// block. Notice 49, 4(1)(1-1)(c)(イ) to (エ), (d)(イ) and (ウ), 4(1)(1-2)(d)(ウ), 4(2)(d)(ウ)
+// block. Notice 49, 4(1)(1-1)(c)(イ) to (エ), (d)(イ) and (ウ), 4(1)(1-2)(c)(エ) and (d)(ウ),
+// 4(2)(c)(エ) and (d)(ウ)
 fn is_taken(kind: u8, header: Header, i: u16, b: u8) -> bool
     ensures { λ r. ⌜ r ≡ isTaken kind header i b ⌝ }
 {
@@ -59,7 +60,8 @@ fn grid_place(kind: u8, i: u16) -> usize
 }
 
 // A block byte that keeps its rule enters the header, the modes or the grid.
-// Notice 49, 4(1)(1-1)(c)(イ) to (エ), 4(1)(1-2)(c)(エ), 4(2)(c)(エ)
+// Notice 49, 4(1)(1-1)(c)(イ) to (エ), (d)(イ) and (ウ), 4(1)(1-2)(c)(エ) and (d)(ウ),
+// 4(2)(c)(エ) and (d)(ウ)
 pub fn enter_byte(kind: u8, header: Header, modes: [u8; 8], i: u16, b: u8) -> EnterResult
     ensures { λ r. ⌜ r ≡ entered kind header modes i b ⌝ }
 {

@@ -30,7 +30,8 @@ pub(crate) fn start_takes(header: Header, i: u16, b: u8) -> bool
     }
 }
 
-// The same for the time's bytes, and for the radars behind the first. Notice 49, 4(1)(1-1)(d)(イ)
+// The same for the time's bytes, and for the radars behind the first.
+// Notice 49, 4(1)(1-1)(c)(イ) and (d)(イ)
 fn later_takes(header: Header, i: u16, b: u8) -> bool
     requires { ⌜ (8 ≤ i) × (i < 32) ⌝ }
     requires { ⌜ i ≢ 24 ⌝ }
@@ -77,7 +78,7 @@ pub(crate) fn enter_header(header: Header, i: u16, b: u8) -> Header
     }
 }
 
-// The same for the time's bytes, and for the radars. Notice 49, 4(1)(1-1)(d)(イ)
+// The same for the time's bytes, and for the radars. Notice 49, 4(1)(1-1)(c)(イ) and (d)(イ)
 fn enter_later(header: Header, i: u16, b: u8) -> Header
     requires { ⌜ (8 ≤ i) × (i < 32) ⌝ }
     requires { ⌜ startTakes header i b ≡ true ⌝ }

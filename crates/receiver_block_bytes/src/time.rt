@@ -6,14 +6,15 @@ ghost use Prim.Native.Nat.{_≤_, _<_};
 ghost use Rattle.receiver_spec.specs.Contents.{timeTakes, withDigit};
 ghost use Rattle.receiver_block_bytes.specs.Time.{isStop, digitIndex};
 
-// Whether a stop stands at this place. Notice 49, 4(1)(1-1)(d)(イ)
+// Whether a stop stands at this place. Notice 49, 4(1)(1-1)(c)(イ) and (d)(イ)
 pub(crate) fn is_stop(i: u16) -> bool
     ensures { λ r. ⌜ r ≡ isStop i ⌝ }
 {
     (i == 4) | (i == 7) | (i == 10) | (i == 13)
 }
 
-// Which of the twelve digits stands at this place; 12 at a stop. Notice 49, 4(1)(1-1)(d)(イ)
+// Which of the twelve digits stands at this place; 12 at a stop.
+// Notice 49, 4(1)(1-1)(c)(イ) and (d)(イ)
 fn digit_index(i: u16) -> usize
     requires { ⌜ i < 16 ⌝ }
     ensures { λ r. ⌜ r ≡ digitIndex i ⌝ }
@@ -22,7 +23,7 @@ fn digit_index(i: u16) -> usize
     numbers[i as usize]
 }
 
-// The digits with one more, where a digit stands. Notice 49, 4(1)(1-1)(d)(イ)
+// The digits with one more, where a digit stands. Notice 49, 4(1)(1-1)(c)(イ) and (d)(イ)
 pub(crate) fn with_digit(time: [u8; 12], i: u16, b: u8) -> [u8; 12]
     requires { ⌜ i < 16 ⌝ }
     requires { ⌜ isStop i ≡ false ⌝ }
@@ -36,7 +37,7 @@ pub(crate) fn with_digit(time: [u8; 12], i: u16, b: u8) -> [u8; 12]
 }
 
 // Whether a byte may stand at this place: digits and stops are judged at their own byte, date, hour
-// and minute at the last. Notice 49, 4(1)(1-1)(d)(イ)
+// and minute at the last. Notice 49, 4(1)(1-1)(c)(イ) and (d)(イ)
 pub(crate) fn time_takes(time: [u8; 12], i: u16, b: u8) -> bool
     requires { ⌜ i < 16 ⌝ }
     ensures { λ r. ⌜ r ≡ timeTakes time i b ⌝ }

@@ -10,7 +10,7 @@ use Rattle.receiver_state.specs.declared.state.State.{State}
 use Rattle.receiver_decisions.specs.Decisions.{frame}
 
 -- a data text of the open part is under way, the one that is due; it is inside its payload, five bytes are seen, and this byte keeps
--- the payload's rule. Notice 49, 4(1)(1-1)(c)(エ), 4(1)(1-2)(c)(エ), 4(2)(c)(エ)
+-- the payload's rule. Notice 49, 4(1)(1-1)(c)(エ) and (d)(ウ), 4(1)(1-2)(c)(エ) and (d)(ウ), 4(2)(c)(エ) and (d)(ウ)
 unfoldable pub isPayloadHere : Frame → ℕ → Bool
 isPayloadHere f b =
     leb 3 (f .place)
@@ -23,7 +23,7 @@ isPayloadHere f b =
     && isPictureCode (f .picture)
     && isPayloadByte (f .part) b
 
--- the state inside a payload: place, check byte and the bytes seen have moved on
+-- the state further on, inside a payload or between texts: place, check byte and the bytes seen have moved on
 unfoldable pub advancedState : State → ℕ → ℕ → ℕ → ℕ → State
 advancedState s place check seen count =
     record {

@@ -39,8 +39,8 @@ pub fn refused(state: State, number: u8) -> CallResult
     }
 }
 
-// The byte call. Inside a payload, where most bytes are, it goes by fewer tests.
-// Notice 49, 4(1)(1-1)(c)(エ), 4(1)(1-2)(c)(エ), 4(2)(c)(エ)
+// The byte call. Inside a payload, where most bytes are, it goes by fewer tests, and enters the
+// byte where (c)(エ) has it. Notice 49, 4(1)(1-1), 4(1)(1-2), 4(2)
 pub fn byte_call(state: State, grid: &mut [u8], b: u8) -> CallResult
     ensures { λ r. ⌜ returned r (now (grid .exit)) ≡ byteCall (stateOf state) (now (grid .entry)) b ⌝ }
     ensures { λ r. ⌜ r .state .seen ≡ seenAfter (state .seen) (take (r .count) (b ∷ [])) ⌝ }

@@ -11,7 +11,7 @@ ghost use Rattle.receiver_byte_call.specs.InPayload.{advancedState, isPa
 
 // Whether a byte is payload of the data text that is under way and due. Where it is, the state is
 // possible (01, row 2); the first tests suffice for a byte outside a payload.
-// Notice 49, 4(1)(1-1)(c)(エ), 4(1)(1-2)(c)(エ), 4(2)(c)(エ)
+// Notice 49, 4(1)(1-1)(c)(エ) and (d)(ウ), 4(1)(1-2)(c)(エ) and (d)(ウ), 4(2)(c)(エ) and (d)(ウ)
 pub(crate) fn is_payload_here(f: Frame, b: u8) -> bool
     ensures { λ r. ⌜ r ≡ isPayloadHere f b ⌝ }
 {

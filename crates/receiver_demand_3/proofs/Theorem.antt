@@ -8,26 +8,16 @@ use lib.ListN.{length, take, length-append}
 use Rattle.text.specs.Part.{StartText}
 use Rattle.text_laws.proofs.Framing.{text-length}
 use Rattle.receiver_spec.specs.State as Spec
-use Rattle.receiver_spec.specs.Calls.{CallOutcome, number, Request, byte, slice, Call, onGrid, elsewhere, ask, bytesOf, spread, After, start, add, next, after, received}
+use Rattle.receiver_spec.specs.Calls.{CallOutcome, refused, number, Request, byte, slice, Call, onGrid, elsewhere, ask, bytesOf, spread, After, start, add, next, after, received}
 use Rattle.receiver_spec.proofs.Laws.{demand-3, after-last}
 use Rattle.receiver_bytes_seen.specs.Behind.{seenAfter}
 use Rattle.receiver_bytes_seen.proofs.Laws.{length-seen, seen-append, forgets}
 use Rattle.receiver_state.specs.Meaning.{stateOf, numberOf}
 use Rattle.receiver_state.specs.declared.state.State.{State}
-use Rattle.receiver_state.specs.declared.answer.Answer.{Answer}
-use Rattle.receiver_state.specs.declared.answer.Answer.the-variants.{Quiet, Begun, Taken, Complete, Dropped, Refused}
 use Rattle.receiver_byte_call.specs.Returned.{replyOf, returned}
 use Rattle.receiver_byte_call.specs.declared.calls.CallResult.{CallResult}
+use Rattle.receiver_byte_call.proofs.Laws.{number-same}
 use Rattle.receiver_demand_3.specs.CodeCalls.{Ensured, Called, begin, more, other, outcomeAt, outcomesFrom, CodeWayBack, CodeDemand3}
-
-number-same : (a : Answer) → number (replyOf a) ≡ numberOf a
-unfolding replyOf numberOf
-number-same Quiet = refl
-number-same Begun = refl
-number-same Taken = refl
-number-same (Complete part) = refl
-number-same (Dropped n) = refl
-number-same (Refused n) = refl
 
 -- the contract of a call, as the definition's `ask`
 asked : (r : Request) (s : State) (g : List ℕ) (result : CallResult) (exit : List ℕ) → Ensured r s g result exit
@@ -82,29 +72,34 @@ on-list calls s g taken said made ih r result exit e =
 -- one lent another grid: refused with 1, it leaves all as it was
 elsewhere-on : (calls : List Call) (s : State) (g taken said : List ℕ) (made : List CallOutcome) → Comes calls s g taken said made
     → (r : Request) (grid : List ℕ) (n : length grid ≡ Rattle.text.specs.Part.gridLength → ⊥) (result : CallResult) (exit : List ℕ) → Ensured r s grid result exit
-    → Comes (calls ++ (elsewhere r grid n ∷ [])) (result .state) g taken said (made ++ (returned result exit ∷ []))
-unfolding returned seenAfter
+    → Comes (calls ++ (elsewhere r grid n ∷ [])) (result .state) g (taken ++ take (result .count) (bytesOf r)) (said ++ spread (result .count) (numberOf (result .answer)))
+    (made ++ (returned result exit ∷ []))
+unfolding returned
 elsewhere-on calls s g taken said made ih r grid n result exit e =
     record {
       outcomes = ap₂ (λ t o. t ++ (o ∷ [])) (ih .outcomes) outcome ∙ sym (outcomes-last calls (elsewhere r grid n) start);
-      state = ap (λ (o : CallOutcome). o .state) (outcome ∙ refused) ∙ sym (ap (λ (z : After). z .state) here);
+      state = ap (λ (o : CallOutcome). o .state) (outcome ∙ left) ∙ sym (ap (λ (z : After). z .state) here);
       grid = ih .grid ∙ sym (ap (λ (z : After). z .grid) here);
-      bytes = ih .bytes ∙ sym (ap (λ (z : After). z .taken) here);
-      answers = ih .answers ∙ sym (ap (λ (z : After). z .said) here);
+      bytes = ap (λ m. taken ++ take m (bytesOf r)) none ∙ append-nil taken ∙ ih .bytes ∙ sym (ap (λ (z : After). z .taken) here);
+      answers =
+          ap (λ m. said ++ spread m (numberOf (result .answer))) none ∙ append-nil said ∙ ih .answers ∙ sym (ap (λ (z : After). z .said) here);
       seen =
-          asked r s grid result exit e .1
-          ∙ ap (λ m. seenAfter (s .seen) (take m (bytesOf r))) (ap (λ (o : CallOutcome). o .count) (outcome ∙ refused)) ∙ ih .seen;
+          asked r s grid result exit e .1 ∙ ap (λ v. seenAfter v (take (result .count) (bytesOf r))) (ih .seen)
+          ∙ sym (seen-append 0 taken (take (result .count) (bytesOf r)));
     }
   where
-    each : (ask (received calls .state) grid r ≡ Rattle.receiver_spec.specs.Calls.refuses 1 (received calls .state) grid)
+    each : (ask (received calls .state) grid r ≡ record { reply = refused 1; count = 0; state = received calls .state; grid = grid })
         × (received (calls ++ (elsewhere r grid n ∷ [])) ≡ received calls)
     each = demand-3 (calls ++ (elsewhere r grid n ∷ [])) .each calls (elsewhere r grid n) [] refl
 
     outcome : returned result exit ≡ ask (received calls .state) grid r
     outcome = asked r s grid result exit e .0 ∙ ap (λ t. ask t grid r) (ih .state)
 
-    refused : ask (received calls .state) grid r ≡ Rattle.receiver_spec.specs.Calls.refuses 1 (received calls .state) grid
-    refused = each .0
+    left : ask (received calls .state) grid r ≡ record { reply = refused 1; count = 0; state = received calls .state; grid = grid }
+    left = each .0
+
+    none : result .count ≡ 0
+    none = ap (λ (o : CallOutcome). o .count) (outcome ∙ left)
 
     here : received (calls ++ (elsewhere r grid n ∷ [])) ≡ received calls
     here = each .1

@@ -35,7 +35,8 @@ pub data Called : List Call → State → List ℕ → List ℕ → List ℕ →
       (made ++ (returned result exit ∷ []))
   other : {calls : List Call} {s : State} {g taken said : List ℕ} {made : List CallOutcome} → Called calls s g taken said made
       → (r : Request) (grid : List ℕ) (n : length grid ≢ gridLength) (result : CallResult) (exit : List ℕ) → Ensured r s grid result exit
-      → Called (calls ++ (elsewhere r grid n ∷ [])) (result .state) g taken said (made ++ (returned result exit ∷ []))
+      → Called (calls ++ (elsewhere r grid n ∷ [])) (result .state) g (taken ++ take (result .count) (bytesOf r)) (said ++ spread (result .count) (numberOf (result .answer)))
+      (made ++ (returned result exit ∷ []))
 
 -- What each call of the definition's list returned and left
 abbrev pub outcomeAt : After → Call → CallOutcome

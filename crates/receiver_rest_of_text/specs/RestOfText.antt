@@ -23,7 +23,8 @@ advanced f check = frame (f .place + 1) (f .kind) (f .picture) (f .part) (f .due
 abbrev pub between : Frame → ℕ → ℕ → Frame
 between f part due = frame 0 0 0 part due 0 (f .count)
 
--- a block byte from byte 3 on. Row 18. Notice 49, 4(1)(1-1)(c)(イ) to (エ), 4(1)(1-2)(c)(エ), 4(2)(c)(エ)
+-- a block byte from byte 3 on. Row 18.
+-- Notice 49, 4(1)(1-1)(c)(イ) to (エ), (d)(イ) and (ウ), 4(1)(1-2)(c)(エ) and (d)(ウ), 4(2)(c)(エ) and (d)(ウ)
 abbrev pub enteredHere : State → ℕ → EnterResult
 enteredHere s b = entered (s .frame .kind) (s .header) (s .modes) (s .frame .place) b
 
@@ -34,7 +35,7 @@ byEntered s b e =
     (drops s 18)
 
 -- it enters and the text goes on, or row 18.
--- Notice 49, 4(1)(1-1)(c)(イ) to (エ), (d)(イ) and (ウ), 4(1)(1-2)(d)(ウ), 4(2)(d)(ウ)
+-- Notice 49, 4(1)(1-1)(c)(イ) to (エ), (d)(イ) and (ウ), 4(1)(1-2)(c)(エ) and (d)(ウ), 4(2)(c)(エ) and (d)(ウ)
 unfoldable pub blockDecided : State → ℕ → Decision
 blockDecided s b = byEntered s b (enteredHere s b)
 
@@ -46,7 +47,7 @@ eorDecided s b = cond (eqb b EOR) (quietly s (advanced (s .frame) (s .frame .che
 unfoldable pub checkDecided : State → ℕ → Decision
 checkDecided s b = cond (eqb b (s .frame .check)) (quietly s (advanced (s .frame) (s .frame .check))) (drops s 20)
 
--- answer 1, part begun. Notice 49, 4(1)(1-1)(d)(イ)
+-- answer 1, part begun. Notice 49, 4(1)(1-1)(a), 4(1)(1-2)(a), 4(2)(a), 4(1)(1-1)(d)(イ)
 unfoldable pub begunPart : State → Decision
 begunPart s =
     let part = partOf (s .frame .kind) in
@@ -67,7 +68,7 @@ lastDecided s b =
     cond (not (eqb b TPAD)) (drops s 21)
     (cond (isStartKind (s .frame .kind)) (begunPart s) (cond (isEndKind (s .frame .kind)) (endedPart s) (takenText s)))
 
--- by place. Notice 49, 4(1)(1-1)(c)(ア)
+-- by place. Notice 49, 4(1)(1-1)(b) and (c)(ア), 4(1)(1-2)(b), 4(2)(b)
 unfoldable pub textDecided : State → ℕ → Decision
 textDecided s b =
     cond (ltb (s .frame .place) (blockLength (s .frame .kind))) (blockDecided s b)

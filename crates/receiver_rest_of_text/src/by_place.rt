@@ -14,7 +14,8 @@ ghost use Prim.Native.Nat.{_<_};
 ghost use Rattle.receiver_rest_of_text.specs.RestOfText.{blockDecided, eorDecided, checkDecided, textDecided};
 
 // A block byte from byte 3 on. Row 18: it breaks its rule.
-// Notice 49, 4(1)(1-1)(c)(イ) to (エ), (d)(イ) and (ウ), 4(1)(1-2)(d)(ウ), 4(2)(d)(ウ)
+// Notice 49, 4(1)(1-1)(c)(イ) to (エ), (d)(イ) and (ウ), 4(1)(1-2)(c)(エ) and (d)(ウ),
+// 4(2)(c)(エ) and (d)(ウ)
 fn block_decided(s: State, b: u8) -> Decision
     requires { ⌜ s .frame .place < 65535 ⌝ }
     ensures { λ r. ⌜ r ≡ blockDecided s b ⌝ }
@@ -62,7 +63,8 @@ fn check_decided(s: State, b: u8) -> Decision
     drops(s, 20)
 }
 
-// From the kind on, by place: block, `FE`, check byte, `FF`. Notice 49, 4(1)(1-1)(c)(ア)
+// From the kind on, by place: block, `FE`, check byte, `FF`.
+// Notice 49, 4(1)(1-1)(b) and (c)(ア), 4(1)(1-2)(b), 4(2)(b)
 pub fn text_decided(s: State, b: u8) -> Decision
     ensures { λ r. ⌜ r ≡ textDecided s b ⌝ }
 {

@@ -17,7 +17,8 @@ ghost use mathlib.Core.Path.{_≡_};
 ghost use Rattle.receiver_spec.specs.Receiver.{firstDue, nextDue, modeIsHighest};
 ghost use Rattle.receiver_rest_of_text.specs.RestOfText.{begunPart, endedPart, takenText, lastDecided};
 
-// The due text after a start text: the end with NO ECHO, quality aside. Notice 49, 4(1)(1-1)(d)(イ)
+// The due text after a start text: the end with NO ECHO, quality aside.
+// Notice 49, 4(1)(1-1)(a), 4(1)(1-2)(a), 4(2)(a), 4(1)(1-1)(d)(イ)
 fn first_due(part: u8, h: Header) -> u8
     ensures { λ r. ⌜ r ≡ firstDue part h ⌝ }
 {
@@ -44,7 +45,8 @@ fn mode_is_highest(h: Header, modes: [u8; 8]) -> bool
     h.mode == highest_mode(modes)
 }
 
-// Answer 1, part begun: header kept, modes 0, whole grid 0. Notice 49, 4(1)(1-1)(d)(イ)
+// Answer 1, part begun: header kept, modes 0, whole grid 0.
+// Notice 49, 4(1)(1-1)(a), 4(1)(1-2)(a), 4(2)(a), 4(1)(1-1)(d)(イ)
 fn begun_part(s: State) -> Decision
     ensures { λ r. ⌜ r ≡ begunPart s ⌝ }
 {
@@ -66,8 +68,8 @@ fn begun_part(s: State) -> Decision
     )
 }
 
-// Answer 3, complete, with the part's number: no part open from here; header, modes and grid kept. Row 22: status 2 is not
-// the highest mode. Notice 49, 4(1)(1-1)(d)(イ)
+// Answer 3, complete, with the part's number: no part open from here; header, modes and grid kept.
+// Row 22: status 2 is not the highest mode. Notice 49, 4(1)(1-1)(d)(イ)
 fn ended_part(s: State) -> Decision
     ensures { λ r. ⌜ r ≡ endedPart s ⌝ }
 {

@@ -82,7 +82,8 @@ fn take_bytes(state: State, grid: &mut [u8], bytes: &[u8]) -> CallResult
     }
 }
 
-// The slice call: bytes up to and with the first that is answered other than 0
+// The slice call: bytes up to and with the first that is answered other than 0.
+// Notice 49, 4(1)(1-1), 4(1)(1-2), 4(2)
 pub fn slice_call(state: State, grid: &mut [u8], bytes: &[u8]) -> CallResult
     ensures { λ r. ⌜ returned r (now (grid .exit)) ≡ sliceCall (stateOf state) (now (grid .entry)) (now (bytes .entry)) ⌝ }
     ensures { λ r. ⌜ r .state .seen ≡ seenAfter (state .seen) (take (r .count) (now (bytes .entry))) ⌝ }

@@ -20,7 +20,7 @@ use Rattle.text.specs.Part.{AlteredTo, here, there}
 use Rattle.general_laws.proofs.Tests.{by-test, never, by-if}
 use Rattle.text_laws.proofs.Framing.{altered-length, altered-parts, altered-xor}
 use Rattle.receiver_spec.specs.Seen.{push, endsOpening, dueByte}
-use Rattle.receiver_spec.specs.Receiver.{_⊕_}
+use Rattle.receiver_spec.specs.Receiver.{_⊕_, BEGUN, TAKEN}
 use Rattle.receiver_spec.proofs.Machine.{Rules, Machine, Out, mk, answering, lost, new, opens, inGap, atPicture, atKind, inBlock, atEor, atCheck, atLast, placed, move, run, BlockContents, contents-end, contents-byte, block, most, text, Open, begun, more, Whole, whole}
 use Rattle.receiver_spec.proofs.Opening.{only-FD, only-STX, differs, opening-seen, control-opens, pushes, seenControl, seenOpening, seenKind}
 use Rattle.receiver_spec.proofs.Steps.{RuleLaws, Free, free0, free1, xor-cons, xor-nil, cancel-left, cancel-right, move-seen, move-block, move-eor, move-check, move-last, NotComplete, stop, go, not-complete-append}
@@ -526,7 +526,7 @@ module _ (R : Rules) (L : RuleLaws R) where
         take 4 (seenCheck R L q k xs),
         not-complete-append R (not-complete-append R a (go (take-picture R L 0 d0 q c1 hq) (other 0 tt) (go f na (not-complete-check q 0 0 known l r'))))
             (go (take-last R L (seenCheck R L q k xs) k q 0 0 (checkByte (block R q k xs)) e (L .long-3 k known)
-            ∙ rw hk (ap₂ (λ s t. answering R 1 (mk R (push (seenCheck R L q k xs) TPAD) 0 0 0 (partOf k) s 0 t)) (sym x) (sym y))) (other 1 tt) stop),
+            ∙ rw hk (ap₂ (λ s t. answering R BEGUN (mk R (push (seenCheck R L q k xs) TPAD) 0 0 0 (partOf k) s 0 t)) (sym x) (sym y))) (other BEGUN tt) stop),
       )
   not-complete-open (more {ys} {p} {d} {k} {xs} {c} {e} o hq hk g n m l r) =
       let q = pictureOf c in
@@ -535,7 +535,7 @@ module _ (R : Rules) (L : RuleLaws R) where
         not-complete-append R a
             (not-complete-append R (not-complete-append R (gap-not-complete w p d c (open-some R L o))
             (go (take-picture R L p d q c hq) (other 0 tt) (go (take-due R L p d q k c (open-some R L o) hk g n refl) (other 0 tt) (not-complete-check q p d g l r))))
-            (go (take-last R L (seenCheck R L q k xs) k q p d (checkByte (block R q k xs)) e (L .long-3 k g) ∙ rw (n, m)) (other 2 tt) stop)),
+            (go (take-last R L (seenCheck R L q k xs) k q p d (checkByte (block R q k xs)) e (L .long-3 k g) ∙ rw (n, m)) (other TAKEN tt) stop)),
       )
 
   -- an unaltered text that is no start, with no part open

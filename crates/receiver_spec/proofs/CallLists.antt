@@ -9,12 +9,14 @@ use native.Mathlib.Omega.{arith}
 use lib.Dec.{eqb}
 use lib.ListN.{length, take}
 use borrow.Author.Tests.{eqb-true, eqb-false, eq-eqb, ne-eqb}
+use Rattle.general_laws.specs.Bytes.{_!_}
 use Rattle.text.specs.Part.{gridLength}
 use Rattle.general_laws.proofs.Tests.{by-if}
 use Rattle.receiver_spec.specs.State.{State, fresh, emptyGrid, isPossible}
 use Rattle.receiver_spec.specs.Receiver.{step}
 use Rattle.receiver_spec.specs.Calls.{Reply, quiet, number, answered, CallOutcome, refuses, judged, byteCall, feed, sliceCall, Request, byte, slice, Call, onGrid, elsewhere, ask, spread, After, start, add, next, after, received, singly, answersOf, stateAfter, gridAfter}
-use Rattle.receiver_spec.specs.Demand3.{SliceTaken}
+use Rattle.receiver_spec.specs.Demand3.{IsAnswer, saysNothing, SliceTaken}
+use Rattle.receiver_spec.proofs.Answers.{step-told}
 use Rattle.receiver_spec.proofs.Possible.{Possible, possible-keeps, step-kept, fresh-possible, grid-long}
 
 -- ---- single calls
@@ -46,6 +48,11 @@ spread-suc : (n a : ℕ) → (n ≡ 0 → a ≡ 0) → spread (suc n) a ≡ 0 �
 spread-suc zero a h = rw (h refl)
 spread-suc (suc n) a h = refl
 
+-- the last of the answers that a call spreads over its bytes is its own
+pub spread-last : (n a : ℕ) → spread (suc n) a ! n ≡ a
+spread-last zero a = refl
+spread-last (suc n) a = spread-last n a
+
 quiet-answered : (part : ℕ) → quiet ≡ answered part 0
 unfolding answered
 quiet-answered part = refl
@@ -72,6 +79,7 @@ feed-taken : (bytes : List ℕ) (s : State) (g : List ℕ) → SliceTaken s g by
 unfolding feed answersOf stateAfter gridAfter
 feed-taken [] s g =
     record {
+      isAnswer = saysNothing;
       answer = quiet-answered (s .part);
       within = omega arith;
       each = refl;
@@ -87,6 +95,7 @@ feed-taken (b ∷ bytes) s g =
     let ih = feed-taken bytes (o .state) (o .grid) in
     by-if (SliceTaken s g (b ∷ bytes)) (eqb (o .answer) 0)
     (λ e. record {
+      isAnswer = ih .isAnswer;
       answer = last-part bytes s g b (f .count) (f .reply) (feed-none bytes (o .state) (o .grid)) (ih .answer);
       within = omega (arith, ih .within);
       each =
@@ -100,6 +109,7 @@ feed-taken (b ∷ bytes) s g =
     })
     (λ e. let n = number-answered (s .part) (o .answer) in
     record {
+      isAnswer = step-told (s .part) s g b;
       answer = ap (answered (s .part)) (sym n);
       within = omega arith;
       each = ap (λ x. x ∷ []) (sym n);

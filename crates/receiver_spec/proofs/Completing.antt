@@ -10,7 +10,7 @@ use borrow.Author.Tests.{eq-eqb, ne-eqb}
 use Rattle.general_laws.specs.Bytes.{_!_, same}
 use Rattle.text.specs.Text.{LPAD, SYN, DLE, STX, FD, EOR, TPAD, controlA, checkByte}
 use Rattle.receiver_spec.specs.Seen.{push, endsOpening, dueByte}
-use Rattle.receiver_spec.specs.Receiver.{_⊕_}
+use Rattle.receiver_spec.specs.Receiver.{_⊕_, COMPLETE}
 use Rattle.receiver_spec.proofs.Machine.{Rules, Machine, mk, answering, opens, inGap, atKind, atLast, placed, move, run, AllQuiet, quiet-byte, BlockContents, block, most, text, Open, begun, more, Whole, whole}
 use Rattle.receiver_spec.proofs.Opening.{only-FD, seenControl, seenOpening, seenKind}
 use Rattle.receiver_spec.proofs.Steps.{RuleLaws, run-append, quiet-run}
@@ -145,7 +145,7 @@ module _ (R : Rules) (L : RuleLaws R) where
   pub whole-run : {ys : List ℕ} {p d k : ℕ} {xs : List ℕ} {c e : Held} → Open R ys p d c → isPicture (pictureOf c) ≡ true → k ≡ dueKind p d → isKind k ≡ true → isStart k ≡ false
       → isEnd k ≡ true → 3 + length xs ≡ long k → BlockContents R k c 3 xs e → closes e ≡ true
       → (m : Machine R)
-      → move R (run R m (ys ++ most R (block R (pictureOf c) k xs))) TPAD ≡ answering R 3 (mk R (push (seenCheck R L (pictureOf c) k xs) TPAD) 0 0 0 0 0 0 e)
+      → move R (run R m (ys ++ most R (block R (pictureOf c) k xs))) TPAD ≡ answering R COMPLETE (mk R (push (seenCheck R L (pictureOf c) k xs) TPAD) 0 0 0 0 0 0 e)
   unfolding atLast
   whole-run {ys} {p} {d} {k} {xs} {c} {e} o hq hk g n v l r z m =
       let q = pictureOf c in

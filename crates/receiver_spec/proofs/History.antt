@@ -17,7 +17,7 @@ use Rattle.general_laws.specs.Bytes.{same}
 use Rattle.text.specs.Text.{LPAD, SYN, DLE, FD, EOR, TPAD, controlA, opening, xorAll, checkByte}
 use Rattle.general_laws.proofs.Tests.{by-test, never, by-if}
 use Rattle.receiver_spec.specs.Seen.{push, openingBack, endsOpening, dueByte}
-use Rattle.receiver_spec.specs.Receiver.{_⊕_}
+use Rattle.receiver_spec.specs.Receiver.{_⊕_, BEGUN, TAKEN}
 use Rattle.receiver_spec.proofs.Machine.{Rules, Machine, Out, mk, answering, lost, new, opens, inGap, atPicture, begins, atKind, inBlock, atEor, atCheck, atLast, placed, move, run, BlockContents, contents-end, contents-byte, block, most, text, Open, begun, more, Whole, whole}
 use Rattle.receiver_spec.proofs.Opening.{opening-seen, control-opens, seenControl}
 use Rattle.receiver_spec.proofs.Steps.{RuleLaws, xor-snoc, xor-nil, check-is, run-append, move-seen, move-block, move-eor, move-check, move-last}
@@ -250,7 +250,7 @@ module _ (R : Rules) (L : RuleLaws R) where
   good-last m b {h} {ys} {xs} {c} z k l u =
       by-if G (not (eqb b TPAD)) (λ _. dropped 21 _ (λ e. omega arith))
       (λ eb. let e = eqb-true b TPAD (not-false _ eb) in
-      by-if G (isStart (m .kind)) (λ es. quiet 1 _ (λ e. omega arith) (began (u .source) (u .contents) es e k))
+      by-if G (isStart (m .kind)) (λ es. quiet BEGUN _ (λ e. omega arith) (began (u .source) (u .contents) es e k))
       (λ es. by-if G (isEnd (m .kind))
       (λ ee. by-if G (closes (m .held))
       (λ ec. record {
@@ -258,7 +258,7 @@ module _ (R : Rules) (L : RuleLaws R) where
         full = λ _. (z, ys ++ text R (blockOf m xs), eqn e, ended (u .source) (u .contents) es ee ec);
       })
       (λ _. dropped 22 _ (λ e. omega arith)))
-      (λ ee. quiet 2 _ (λ e. omega arith)
+      (λ ee. quiet TAKEN _ (λ e. omega arith)
       (history z ((ys ++ text R (blockOf m xs)) ++ []) (eqn e ∙ ap (λ t. z ++ t) (sym (append-nil _)))
       (waiting {r = []} refl (grown (u .source) (u .contents) es ee) (subst (λ t. Gap [] (push (m .seen) t)) (sym e) gap0))))))
     where

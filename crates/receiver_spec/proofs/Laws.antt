@@ -4,7 +4,7 @@
 pub use Rattle.receiver_spec.proofs.Theorem.{demand-3, answers-long, after-last}
 pub use Rattle.receiver_spec.proofs.NotBefore.{not-before}
 -- Lists of calls are runs of steps, and calls on a sound state and grid (the fresh ones, and whatever steps lead to) are not refused
-pub use Rattle.receiver_spec.proofs.CallLists.{PossibleOnGrid, fresh-sound, steps-sound, not-refused, slice-taken, slice-count-most, calls-stepped, singly-taken, answers-append, state-append, grid-append}
+pub use Rattle.receiver_spec.proofs.CallLists.{PossibleOnGrid, fresh-sound, steps-sound, not-refused, slice-taken, slice-count-most, calls-stepped, singly-taken, spread-last, answers-append, state-append, grid-append}
 -- What a possible state says of its place
 pub use Rattle.receiver_spec.proofs.Possible.{place-before-kind, place-in-text}
 -- The running check byte

@@ -14,6 +14,7 @@ pub mod BlockRules
 pub mod WholeParts
 -- possible states, and lists of calls
 pub mod Possible
+pub mod Answers
 pub mod CallLists
 -- demand 3
 pub mod Theorem

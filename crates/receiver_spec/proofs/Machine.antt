@@ -8,7 +8,7 @@ use lib.Dec.{eqb, ltb}
 use lib.ListN.{length}
 use Rattle.text.specs.Text.{FD, EOR, TPAD, controlA, checkByte}
 use Rattle.receiver_spec.specs.Seen.{push, endsOpening, dueByte}
-use Rattle.receiver_spec.specs.Receiver.{_⊕_}
+use Rattle.receiver_spec.specs.Receiver.{_⊕_, BEGUN, TAKEN, COMPLETE}
 
 -- What blocks hold: which codes are pictures and kinds, how long a block is, which block bytes are taken and where they
 -- enter, which text is due, and what lets a part end
@@ -109,9 +109,9 @@ module _ (R : Rules) where
   unfoldable pub atLast : Machine → List ℕ → ℕ → Out
   atLast m w b =
       cond (not (eqb b TPAD)) (answering 21 (lost w))
-      (cond (isStart (m .kind)) (answering 1 (mk w 0 0 0 (partOf (m .kind)) (firstDue (m .kind) (m .held)) 0 (settle (m .held))))
-      (cond (isEnd (m .kind)) (cond (closes (m .held)) (answering 3 (mk w 0 0 0 0 0 0 (m .held))) (answering 22 (lost w)))
-      (answering 2 (mk w 0 0 0 (m .part) (nextDue (m .part) (m .kind)) 0 (m .held)))))
+      (cond (isStart (m .kind)) (answering BEGUN (mk w 0 0 0 (partOf (m .kind)) (firstDue (m .kind) (m .held)) 0 (settle (m .held))))
+      (cond (isEnd (m .kind)) (cond (closes (m .held)) (answering COMPLETE (mk w 0 0 0 0 0 0 (m .held))) (answering 22 (lost w)))
+      (answering TAKEN (mk w 0 0 0 (m .part) (nextDue (m .part) (m .kind)) 0 (m .held)))))
 
   unfoldable pub placed : Machine → List ℕ → ℕ → Out
   placed m w b =

@@ -11,7 +11,7 @@ use Rattle.text.specs.Text.{TPAD, controlA, checkByte}
 use Rattle.text.specs.Part.{UndamagedPart}
 use Rattle.receiver_spec.specs.Seen.{endsOpening}
 use Rattle.receiver_spec.specs.State.{State, fresh, emptyGrid}
-use Rattle.receiver_spec.specs.Receiver.{step}
+use Rattle.receiver_spec.specs.Receiver.{BEGUN, TAKEN, step}
 use Rattle.receiver_spec.specs.Calls.{byte, onGrid, singly, answersOf}
 use Rattle.receiver_spec.proofs.Machine.{Rules, Machine, Out, mk, new, inGap, atLast, placed, move, AllQuiet, quiet-none, quiet-byte, BlockContents, block, most, Open, begun, more, Whole, whole}
 use Rattle.receiver_spec.proofs.Opening.{seenControl}
@@ -63,7 +63,7 @@ module _ (R : Rules) (L : RuleLaws R) where
   open-not-complete (begun {q} {k} {xs} {c} hq hk l r) = (
     take 4 (seenCheck R L q k xs),
     not-complete-append R (quiet-not-complete R (start-most hq hk l r))
-        (go {a = 1} (take-last R L (seenCheck R L q k xs) k q 0 0 (checkByte (block R q k xs)) c (L .long-3 k (L .start-kind k hk)) ∙ rw hk) (λ t. omega arith) stop),
+        (go {a = BEGUN} (take-last R L (seenCheck R L q k xs) k q 0 0 (checkByte (block R q k xs)) c (L .long-3 k (L .start-kind k hk)) ∙ rw hk) (λ t. omega arith) stop),
   )
   open-not-complete (more {ys} {p} {d} {k} {xs} {c} {e} o hq hk g n v l r) =
       let q = pictureOf c in
@@ -71,7 +71,7 @@ module _ (R : Rules) (L : RuleLaws R) where
         take 4 (seenCheck R L q k xs),
         not-complete-append R before
             (not-complete-append R (quiet-not-complete R (due-most w p d (open-some R L o) hq hk g n l r))
-            (go {a = 2} (take-last R L (seenCheck R L q k xs) k q p d (checkByte (block R q k xs)) e (L .long-3 k g) ∙ rw (n, v)) (λ t. omega arith) stop)),
+            (go {a = TAKEN} (take-last R L (seenCheck R L q k xs) k q p d (checkByte (block R q k xs)) e (L .long-3 k g) ∙ rw (n, v)) (λ t. omega arith) stop)),
       )
 
   -- a whole part but for its last byte

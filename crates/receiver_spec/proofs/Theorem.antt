@@ -21,7 +21,7 @@ use Rattle.text_laws.proofs.Blocks.{StartRules, start-rules, split-3}
 use Rattle.receiver_spec.specs.State.{State, fresh, emptyGrid}
 use Rattle.receiver_spec.specs.Receiver.{Step, step}
 use Rattle.receiver_spec.specs.Calls.{Reply, quiet, partBegun, textTaken, partComplete, partDropped, refused, number, answered, CallOutcome, Request, byte, slice, Call, onGrid, elsewhere, ask, After, start, add, next, after, received, singly, answersOf, stateAfter, gridAfter}
-use Rattle.receiver_spec.specs.Demand3.{CallMade, EndsUndamaged, WayBack, Demand3}
+use Rattle.receiver_spec.specs.Demand3.{IsAnswer, CallMade, EndsUndamaged, WayBack, Demand3}
 use Rattle.receiver_spec.proofs.Machine.{Machine, Out, move, run, new, block, most, text, Whole, whole}
 use Rattle.receiver_spec.proofs.Steps.{run-append}
 use Rattle.receiver_spec.proofs.WayBack.{way-back}
@@ -32,6 +32,7 @@ use Rattle.receiver_spec.proofs.Instance.{Held, held, radar, machine, o
 use Rattle.text_laws.proofs.KindTable.{start-block-length}
 use Rattle.receiver_spec.proofs.BlockRules.{start-taken}
 use Rattle.receiver_spec.proofs.WholeParts.{text-same, heldOf, whole-undamaged, undamaged-whole}
+use Rattle.receiver_spec.proofs.Answers.{step-told, three-complete}
 use Rattle.receiver_spec.proofs.CallLists.{wrong-grid, byte-taken, slice-taken, number-answered, answers-append, state-append, Stepped, calls-stepped, calls-sound, singly-taken}
 
 -- ---- steps are moves
@@ -250,6 +251,7 @@ made calls (onGrid (byte b)) =
     let o = step (a .state) (a .grid) b in
     let e = byte-taken (a .state) (a .grid) b (calls-sound calls .possible) (calls-sound calls .long) in (
       e,
+      subst (λ (outcome : CallOutcome). IsAnswer (outcome .reply)) (sym e) (step-told (a .state .part) (a .state) (a .grid) b),
       ap (add a (byte b)) e
           ∙ ap (λ n. record { state = o .state; grid = o .grid; taken = a .taken ++ (b ∷ []); said = a .said ++ (n ∷ []) }) (number-answered (a .state .part) (o .answer)),
     )
@@ -299,7 +301,7 @@ complete-tells : (calls : List Call) (r : Request) (p : ℕ) → ask (received c
     → (before part : List ℕ) (u : UndamagedPart part) → received (calls ++ (onGrid r ∷ [])) .taken ≡ before ++ part → p ≡ startPart (u .part .start)
 complete-tells calls (byte b) p h before part u e =
     let a = received calls in
-    let (returned, here) = made calls (onGrid (byte b)) in
+    let (returned, _, here) = made calls (onGrid (byte b)) in
     let taken : a .taken ++ (b ∷ []) ≡ before ++ part = sym (ap (λ (z : After). z .taken) (after-last calls (onGrid (byte b)) start ∙ here)) ∙ e in
     tells-is (a .state .part) (step (a .state) (a .grid) b .answer) p (sym (ap (λ (o : CallOutcome). o .reply) returned) ∙ h)
     ∙ ap (λ (s : State). s .part) (calls-stepped calls .state) ∙ open-before (a .taken) b before part u taken
@@ -326,6 +328,18 @@ complete-tells calls (slice bytes) p h before part u e =
     one-more : (n : ℕ) → 1 ≤ n → n ≡ suc (n - 1)
     one-more n l = omega arith
 
+-- the reply of a call on the list's grid is an answer
+told : (calls : List Call) (r : Request) → IsAnswer (ask (received calls .state) (received calls .grid) r .reply)
+told calls (byte b) = made calls (onGrid (byte b)) .1
+told calls (slice bytes) = made calls (onGrid (slice bytes)) .0 .isAnswer
+
+complete-told : (calls : List Call) (r : Request) → number (ask (received calls .state) (received calls .grid) r .reply) ≡ 3
+    → (before part : List ℕ) (u : UndamagedPart part) → received (calls ++ (onGrid r ∷ [])) .taken ≡ before ++ part
+    → ask (received calls .state) (received calls .grid) r .reply ≡ partComplete (startPart (u .part .start))
+complete-told calls r three before part u e =
+    let (p, h) = three-complete (told calls r) three in
+    h ∙ ap partComplete (complete-tells calls r p h before part u e)
+
 -- The theorem
 pub demand-3 : (calls : List Call) → Demand3 calls
 unfolding start after
@@ -336,6 +350,6 @@ demand-3 calls =
       wayBack = λ earlier later e before text rest u f. found text u earlier before rest f;
       complete = completed calls;
       held = λ earlier later e. holds earlier;
-      completeTells = λ earlier r later e. complete-tells earlier r;
+      completeTells = λ earlier r later e. complete-told earlier r;
       altered = never-complete calls;
     }

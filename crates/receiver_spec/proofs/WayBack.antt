@@ -12,7 +12,7 @@ use borrow.Author.Tests.{eq-eqb, eqb-true, eqb-false}
 use Rattle.text.specs.Text.{STX, FD, EOR, TPAD, controlA, xorAll, checkByte}
 use Rattle.general_laws.proofs.Tests.{by-test, never, by-if}
 use Rattle.receiver_spec.specs.Seen.{push, endsOpening}
-use Rattle.receiver_spec.specs.Receiver.{_⊕_}
+use Rattle.receiver_spec.specs.Receiver.{_⊕_, BEGUN}
 use Rattle.receiver_spec.proofs.Machine.{Rules, Machine, Out, mk, answering, opens, atPicture, atKind, inBlock, atEor, atCheck, atLast, placed, move, run, AllQuiet, quiet-none, quiet-byte, BlockContents, contents-end, contents-byte, block, most}
 use Rattle.receiver_spec.proofs.Opening.{only-FD, only-STX, control-opens, pushes, seenControl, seenOpening, seenKind}
 use Rattle.receiver_spec.proofs.Steps.{RuleLaws, xor-cons, xor-nil, check-is, run-append, quiet-run, quiet-append, move-seen, move-block, move-eor, move-check, move-last}
@@ -119,7 +119,7 @@ module _ (R : Rules) (L : RuleLaws R) where
   afterStart q k xs e = mk R (push (seenCheck q k xs) TPAD) 0 0 0 (partOf k) (firstDue k e) 0 (settle e)
 
   pub start-run : {q k : ℕ} {xs : List ℕ} {e : Held} → isPicture q ≡ true → isStart k ≡ true → 3 + length xs ≡ long k → BlockContents R k (begin q blank) 3 xs e
-      → (m : Machine R) → move R (run R m (most R (block R q k xs))) TPAD ≡ answering R 1 (afterStart q k xs e)
+      → (m : Machine R) → move R (run R m (most R (block R q k xs))) TPAD ≡ answering R BEGUN (afterStart q k xs e)
   unfolding run most atLast
   start-run {q} {k} {xs} {e} hq hk l r m =
       let known = L .start-kind k hk in
@@ -134,7 +134,7 @@ module _ (R : Rules) (L : RuleLaws R) where
       ∙ ap (λ t. run R (t .machine) (xs ++ (EOR ∷ z ∷ []))) (g .2)
       ∙ quiet-run R (block-quiet q 0 0 known l (b .1)))
       ∙ take-last (seenCheck q k xs) k q 0 0 z (b .0) (L .long-3 k known)
-      ∙ rw hk (ap₂ (λ x y. answering R 1 (mk R (push (seenCheck q k xs) TPAD) 0 0 0 (partOf k) x 0 y)) (sym (b .3)) (sym (b .2)))
+      ∙ rw hk (ap₂ (λ x y. answering R BEGUN (mk R (push (seenCheck q k xs) TPAD) 0 0 0 (partOf k) x 0 y)) (sym (b .3)) (sym (b .2)))
 
   -- from a start text's last byte on, it makes no difference what came before it
   pub way-back : {q k : ℕ} {xs : List ℕ} {e : Held} → isPicture q ≡ true → isStart k ≡ true → 3 + length xs ≡ long k → BlockContents R k (begin q blank) 3 xs e

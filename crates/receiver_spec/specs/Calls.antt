@@ -48,7 +48,7 @@ refuses n s g = record { reply = refused n; count = 0; state = s; grid = g }
 abbrev pub judged : State → List ℕ → CallOutcome → CallOutcome
 judged s g taken = cond (not (eqb (length g) gridLength)) (refuses 1 s g) (cond (not (isPossible s)) (refuses 2 s g) taken)
 
--- The byte call
+-- The byte call. Notice 49, 4(1)(1-1), 4(1)(1-2), 4(2)
 unfoldable pub byteCall : State → List ℕ → ℕ → CallOutcome
 byteCall s g b =
     judged s g (record { reply = answered (s .part) (step s g b .answer); count = 1; state = step s g b .state; grid = step s g b .grid })
@@ -62,7 +62,7 @@ feed s g (b ∷ bytes) =
     cond (eqb (o .answer) 0) (record { reply = rest .reply; count = suc (rest .count); state = rest .state; grid = rest .grid })
     (record { reply = answered (s .part) (o .answer); count = 1; state = o .state; grid = o .grid })
 
--- The slice call
+-- The slice call. Notice 49, 4(1)(1-1), 4(1)(1-2), 4(2)
 unfoldable pub sliceCall : State → List ℕ → List ℕ → CallOutcome
 sliceCall s g bytes = judged s g (feed s g bytes)
 

@@ -13,16 +13,17 @@ use Rattle.text.specs.declared.header.Header.{Header}
 
 -- ---- the start block, Notice 49, 4(1)(1-1)(c)(イ) and (d)(イ)
 
--- which of the twelve digits stands at a place of the time. Notice 49, 4(1)(1-1)(d)(イ)
+-- which of the twelve digits stands at a place of the time. Notice 49, 4(1)(1-1)(c)(イ) and (d)(イ)
 abbrev pub indexIn : ℕ → List ℕ → ℕ
 indexIn i [] = 0
 indexIn i (x ∷ xs) = cond (eqb i x) 0 (suc (indexIn i xs))
 
--- the digits with one more, at place i of `YYYY.MM.DD.hh.mm`. Notice 49, 4(1)(1-1)(d)(イ)
+-- the digits with one more, at place i of `YYYY.MM.DD.hh.mm`. Notice 49, 4(1)(1-1)(c)(イ) and (d)(イ)
 abbrev pub withDigit : List ℕ → ℕ → ℕ → List ℕ
 withDigit time i b = set time (indexIn i digitPlaces) (b - 0x30)
 
--- 01, row 18: digits and stops are judged at their own byte; date, hour and minute at the last. Notice 49, 4(1)(1-1)(d)(イ)
+-- 01, row 18: digits and stops are judged at their own byte; date, hour and minute at the last.
+-- Notice 49, 4(1)(1-1)(c)(イ) and (d)(イ)
 unfoldable pub timeTakes : List ℕ → ℕ → ℕ → Bool
 timeTakes time i b =
     cond (isIn i stopPlaces) (eqb b 0x2E) (isDigit b && (not (eqb i 15) || isTime (withDigit time i b)))
@@ -63,7 +64,7 @@ abbrev pub withRadars : Header → List ℕ → Header
 withRadars h r =
     record { time = h .time; radars = r; clock = h .clock; picture = h .picture; mode = h .mode; noecho = h .noecho }
 
--- 01: taking a start kind sets the header to 0, and the picture code enters
+-- 01: taking a start kind sets the header to 0, and the picture code enters. Notice 49, 4(1)(1-1)(c)(イ)
 unfoldable pub begunHeader : ℕ → Header
 begunHeader picture = withPicture blankHeader picture
 
@@ -89,7 +90,7 @@ endTakes radars i b = cond (leb i 10) (isModeByte (radars ! (i - 3)) b) (eqb b 0
 unfoldable pub enterModes : List ℕ → ℕ → ℕ → List ℕ
 enterModes modes i b = cond (leb i 10) (set modes (i - 3) (modeOf b)) modes
 
--- ---- the data block, Notice 49, 4(1)(1-1)(c)(エ) and (d)(ウ)
+-- ---- the data block, Notice 49, 4(1)(1-1)(c)(エ), 4(1)(1-2)(c)(エ), 4(2)(c)(エ)
 
 -- 01: data text k enters the grid from byte 2,000 × (k − 1). Notice 49, 4(1)(1-1)(c)(エ), 4(1)(1-2)(c)(エ), 4(2)(c)(エ)
 unfoldable pub enterGrid : List ℕ → ℕ → ℕ → ℕ → List ℕ
@@ -98,7 +99,7 @@ enterGrid grid k i b = set grid (2000 * (k - 1) + (i - 3)) b
 -- ---- by kind
 
 -- the rule of block byte i of a kind's block, given the header so far (01, row 18).
--- Notice 49, 4(1)(1-1)(c)(イ) to (エ), (d)(イ) and (ウ), 4(1)(1-2)(d)(ウ), 4(2)(d)(ウ)
+-- Notice 49, 4(1)(1-1)(c)(イ) to (エ), (d)(イ) and (ウ), 4(1)(1-2)(c)(エ) and (d)(ウ), 4(2)(c)(エ) and (d)(ウ)
 unfoldable pub takesByte : ℕ → Header → ℕ → ℕ → Bool
 takesByte kind h i b =
     cond (isStartKind kind) (startTakes h i b)

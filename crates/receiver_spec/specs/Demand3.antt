@@ -9,12 +9,21 @@ use Rattle.text.specs.Text.{FD}
 use Rattle.text.specs.Part.{startPart, StartText, UndamagedPart, AlteredTo, partHeader, partModes, gridOf}
 use Rattle.receiver_spec.specs.State.{State, fresh, emptyGrid}
 use Rattle.receiver_spec.specs.Receiver.{step}
-use Rattle.receiver_spec.specs.Calls.{quiet, partComplete, number, answered, CallOutcome, refuses, Request, byte, slice, Call, onGrid, elsewhere, ask, spread, After, received, singly, answersOf, stateAfter, gridAfter}
+use Rattle.receiver_spec.specs.Calls.{Reply, quiet, partBegun, textTaken, partComplete, partDropped, refused, number, answered, CallOutcome, Request, byte, slice, Call, onGrid, elsewhere, ask, spread, After, received, singly, answersOf, stateAfter, gridAfter}
+
+-- The reply of a call that is not refused, by its case: 01's answers 0 to 3, and the rows 11 to 22
+pub data IsAnswer : Reply → Type 0 where
+  saysNothing : IsAnswer quiet
+  saysBegun : IsAnswer partBegun
+  saysTaken : IsAnswer textTaken
+  saysComplete : (part : ℕ) → IsAnswer (partComplete part)
+  saysDropped : (row : ℕ) → 11 ≤ row → row ≤ 22 → IsAnswer (partDropped row)
 
 -- A slice call takes bytes up to and with the first that is answered other than 0: the last byte taken has the call's answer,
 -- those before it 0, and all bytes are taken where the answer is 0. State and grid are those after the bytes taken.
 -- No answer without a byte: a call that takes none is answered 0, and only of an empty slice is none taken
 pub record SliceTaken (s : State) (g bytes : List ℕ) (outcome : CallOutcome) : Type 0 where
+  pub isAnswer : IsAnswer (outcome .reply)
   pub answer : outcome .reply ≡ answered (stateAfter s g (take (outcome .count - 1) bytes) .part) (number (outcome .reply))
   pub within : outcome .count ≤ length bytes
   pub each : answersOf s g (take (outcome .count) bytes) ≡ spread (outcome .count) (number (outcome .reply))
@@ -24,18 +33,20 @@ pub record SliceTaken (s : State) (g bytes : List ℕ) (outcome : CallOutcome) :
   pub state : outcome .state ≡ stateAfter s g (take (outcome .count) bytes)
   pub grid : outcome .grid ≡ gridAfter s g (take (outcome .count) bytes)
 
--- What one call of a list returned, took and left; a is what the calls before it came to, z what they come to with it. Lent a grid of another length, it is refused
--- with 1, takes nothing and leaves all as it was. Otherwise it is not refused: a byte call takes its byte, and its answer is the step's
+-- What one call of a list returned, took and left; a is what the calls before it came to, z what they come to with it.
+-- Lent a grid of another length, it is refused with 1, takes nothing and leaves all as it was. Otherwise it is not
+-- refused: a byte call takes its byte, and its answer is the step's
 abbrev pub CallMade : After → Call → After → Type 0
 CallMade a (onGrid (byte b)) z =
     let o = step (a .state) (a .grid) b in
     (ask (a .state) (a .grid) (byte b) ≡ record { reply = answered (a .state .part) (o .answer); count = 1; state = o .state; grid = o .grid })
+    × IsAnswer (ask (a .state) (a .grid) (byte b) .reply)
     × (z ≡ record { state = o .state; grid = o .grid; taken = a .taken ++ (b ∷ []); said = a .said ++ (o .answer ∷ []) })
 CallMade a (onGrid (slice bytes)) z =
     let outcome = ask (a .state) (a .grid) (slice bytes) in
     SliceTaken (a .state) (a .grid) bytes outcome
     × (z ≡ record { state = outcome .state; grid = outcome .grid; taken = a .taken ++ take (outcome .count) bytes; said = a .said ++ spread (outcome .count) (number (outcome .reply)) })
-CallMade a (elsewhere r grid other) z = (ask (a .state) grid r ≡ refuses 1 (a .state) grid) × (z ≡ a)
+CallMade a (elsewhere r grid other) z = (ask (a .state) grid r ≡ record { reply = refused 1; count = 0; state = a .state; grid = grid }) × (z ≡ a)
 
 -- bytes that end with an undamaged part
 pub record EndsUndamaged (bytes : List ℕ) : Type 0 where
@@ -68,9 +79,10 @@ pub record Demand3 (calls : List Call) : Type 0 where
   pub held : (earlier later : List Call) → calls ≡ earlier ++ later → (before part : List ℕ) (u : UndamagedPart part)
       → received earlier .taken ≡ before ++ part
       → (received earlier .state .header ≡ partHeader (u .part)) × (received earlier .state .modes ≡ partModes (u .part)) × (received earlier .grid ≡ gridOf (u .part))
-  -- and the number that complete tells is that part's
-  pub completeTells : (earlier : List Call) (r : Request) (later : List Call) → calls ≡ earlier ++ (onGrid r ∷ later) → (p : ℕ)
-      → ask (received earlier .state) (received earlier .grid) r .reply ≡ partComplete p
-      → (before part : List ℕ) (u : UndamagedPart part) → received (earlier ++ (onGrid r ∷ [])) .taken ≡ before ++ part → p ≡ startPart (u .part .start)
+  -- and the call that is answered 3 tells that part's number
+  pub completeTells : (earlier : List Call) (r : Request) (later : List Call) → calls ≡ earlier ++ (onGrid r ∷ later)
+      → number (ask (received earlier .state) (received earlier .grid) r .reply) ≡ 3
+      → (before part : List ℕ) (u : UndamagedPart part) → received (earlier ++ (onGrid r ∷ [])) .taken ≡ before ++ part
+      → ask (received earlier .state) (received earlier .grid) r .reply ≡ partComplete (startPart (u .part .start))
   -- One altered byte, to any value but `FD`, never yields complete
   pub altered : (part : List ℕ) (v : ℕ) → UndamagedPart part → v ≢ FD → AlteredTo v part (received calls .taken) → (i : ℕ) → received calls .said ! i ≢ 3

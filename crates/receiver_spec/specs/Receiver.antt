@@ -18,6 +18,16 @@ infixl 60 _⊕_
 unfoldable pub _⊕_ : ℕ → ℕ → ℕ
 a ⊕ b = bitXor a b
 
+-- 01's answers 1, 2 and 3: part begun, data text taken, complete
+abbrev pub BEGUN : ℕ
+BEGUN = 1
+
+abbrev pub TAKEN : ℕ
+TAKEN = 2
+
+abbrev pub COMPLETE : ℕ
+COMPLETE = 3
+
 -- A byte's answer, and the state and the grid that it leaves
 pub record Step : Type 0 where
   pub answer : ℕ
@@ -47,7 +57,7 @@ opened s g seen =
     cond (eqb (s .place) 0) (answers 0 (within s seen 1 0 0 FD) g) (answers 11 (within (dropped seen) seen 1 0 0 FD) emptyGrid)
 
 -- Between texts. With no part open, bytes are free. Row 12: with a part open, the opening must follow byte upon byte.
--- Notice 49, 4(1)(1-1)(a), 4(1)(1-2)(a), 4(2)(a)
+-- Notice 49, 4(1)(1-1)(a) and (c)(ア), 4(1)(1-2)(a), 4(2)(a)
 unfoldable pub gapByte : State → List ℕ → List ℕ → ℕ → Step
 gapByte s g seen b =
     cond (eqb (s .part) 0) (answers 0 (between seen 0 0 (s .header) (s .modes)) g)
@@ -59,7 +69,8 @@ unfoldable pub pictureByte : State → List ℕ → List ℕ → ℕ → Step
 pictureByte s g seen b =
     cond (isPictureCode b) (answers 0 (within s seen 2 0 b (s .check ⊕ b)) g) (drops 13 seen)
 
--- a start kind is taken: no part is open, header and modes are 0, and the picture code enters
+-- a start kind is taken: no part is open, header and modes are 0, and the picture code enters.
+-- Notice 49, 4(1)(1-1)(c)(イ)
 abbrev pub starting : State → List ℕ → ℕ → State
 starting s seen b =
     record {
@@ -86,7 +97,7 @@ kindByte s g seen b =
     (cond (eqb (s .picture) (s .header .picture)) (answers 0 (within s seen 3 b (s .picture) (s .check ⊕ b)) g)
     (drops 17 seen)))))
 
--- where a block byte enters. Notice 49, 4(1)(1-1)(c)(イ) to (エ), 4(1)(1-2)(c)(エ), 4(2)(c)(エ)
+-- where a block byte enters: header and modes with it. Notice 49, 4(1)(1-1)(c)(イ) and (ウ), (d)(イ)
 abbrev pub entered : State → List ℕ → ℕ → State
 entered s seen b =
     record {
@@ -101,12 +112,13 @@ entered s seen b =
       modes = cond (isEndKind (s .kind)) (enterModes (s .modes) (s .place) b) (s .modes);
     }
 
+-- and the grid with it, where it is payload. Notice 49, 4(1)(1-1)(c)(エ), 4(1)(1-2)(c)(エ), 4(2)(c)(エ)
 abbrev pub enteredGrid : State → List ℕ → ℕ → List ℕ
 enteredGrid s g b =
     cond (isStartKind (s .kind) || isEndKind (s .kind)) g (enterGrid g (textNumber (s .kind)) (s .place) b)
 
 -- A later block byte. Row 18: it breaks its rule.
--- Notice 49, 4(1)(1-1)(c)(イ) to (エ), (d)(イ) and (ウ), 4(1)(1-2)(d)(ウ), 4(2)(d)(ウ)
+-- Notice 49, 4(1)(1-1)(c)(イ) to (エ), (d)(イ) and (ウ), 4(1)(1-2)(c)(エ) and (d)(ウ), 4(2)(c)(エ) and (d)(ウ)
 unfoldable pub blockByte : State → List ℕ → List ℕ → ℕ → Step
 blockByte s g seen b =
     cond (takesByte (s .kind) (s .header) (s .place) b) (answers 0 (entered s seen b) (enteredGrid s g b)) (drops 18 seen)
@@ -121,7 +133,7 @@ unfoldable pub checkedByte : State → List ℕ → List ℕ → ℕ → Step
 checkedByte s g seen b =
     cond (eqb b (s .check)) (answers 0 (within s seen (suc (s .place)) (s .kind) (s .picture) (s .check)) g) (drops 20 seen)
 
--- the text that is due after a start text, which may have NO ECHO, and after data text k.
+-- the text that is due after a start text, which may have NO ECHO.
 -- Notice 49, 4(1)(1-1)(a), 4(1)(1-2)(a), 4(2)(a), 4(1)(1-1)(d)(イ)
 unfoldable pub firstDue : ℕ → Header → ℕ
 firstDue part h = cond (eqb (dataTexts part (h .noecho)) 0) 11 1
@@ -140,12 +152,12 @@ unfoldable pub lastByte : State → List ℕ → List ℕ → ℕ → Step
 lastByte s g seen b =
     cond (not (eqb b TPAD)) (drops 21 seen)
     (cond (isStartKind (s .kind))
-    (answers 1 (between seen (partOf (s .kind)) (firstDue (partOf (s .kind)) (s .header)) (s .header) noModes) emptyGrid)
+    (answers BEGUN (between seen (partOf (s .kind)) (firstDue (partOf (s .kind)) (s .header)) (s .header) noModes) emptyGrid)
     (cond (isEndKind (s .kind))
-    (cond (modeIsHighest (s .header) (s .modes)) (answers 3 (between seen 0 0 (s .header) (s .modes)) g) (drops 22 seen))
-    (answers 2 (between seen (s .part) (nextDue (s .part) (textNumber (s .kind))) (s .header) (s .modes)) g)))
+    (cond (modeIsHighest (s .header) (s .modes)) (answers COMPLETE (between seen 0 0 (s .header) (s .modes)) g) (drops 22 seen))
+    (answers TAKEN (between seen (s .part) (nextDue (s .part) (textNumber (s .kind))) (s .header) (s .modes)) g)))
 
--- by the byte's place in its text
+-- by the byte's place in its text. Notice 49, 4(1)(1-1)(b) and (c)(ア), 4(1)(1-2)(b), 4(2)(b)
 unfoldable pub placedByte : State → List ℕ → List ℕ → ℕ → Step
 placedByte s g seen b =
     cond (eqb (s .place) 0) (gapByte s g seen b)
@@ -156,7 +168,7 @@ placedByte s g seen b =
     (cond (eqb (s .place) (suc (blockLength (s .kind)))) (checkedByte s g seen b)
     (lastByte s g seen b))))))
 
--- One byte: the opening is looked for before every other check
+-- One byte: the opening is looked for before every other check. Notice 49, 4(1)(1-1)(c)(ア)
 unfoldable pub step : State → List ℕ → ℕ → Step
 step s g b =
     cond (endsOpening (s .seen) b) (opened s g (push (s .seen) b)) (placedByte s g (push (s .seen) b) b)

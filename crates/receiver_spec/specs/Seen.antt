@@ -10,11 +10,11 @@ use Rattle.text.specs.Text.{LPAD, SYN, DLE, STX, FD, opening}
 abbrev pub push : List ℕ → ℕ → List ℕ
 push seen b = take 5 (b ∷ seen)
 
--- An opening is looked for among the last six bytes: it ends with the byte b after these. Notice 49, 4(1)(1-1)(c)(ア)
+-- the opening, newest byte first. Notice 49, 4(1)(1-1)(c)(ア)
 abbrev pub openingBack : List ℕ
 openingBack = FD ∷ STX ∷ DLE ∷ SYN ∷ SYN ∷ LPAD ∷ []
 
--- an opening ends with this byte. Notice 49, 4(1)(1-1)(c)(ア)
+-- An opening is looked for among the last six bytes: it ends with the byte b after these. Notice 49, 4(1)(1-1)(c)(ア)
 unfoldable pub endsOpening : List ℕ → ℕ → Bool
 endsOpening seen b = same (b ∷ seen) openingBack
 

@@ -59,18 +59,20 @@ fresh = dropped []
 unfoldable pub isDue : ℕ → ℕ → Bool
 isDue part due = cond (eqb part 0) (eqb due 0) (isKind (kindOf part due) && not (eqb due 0))
 
--- the kind read is the due one of the open part, or a start kind with none open
+-- the kind read is the due one of the open part, or a start kind with none open.
+-- Notice 49, 4(1)(1-1)(d)(イ) and (ウ), 4(1)(1-2)(d)(イ) and (ウ), 4(2)(d)(イ) and (ウ)
 unfoldable pub fitsPart : State → Bool
 fitsPart s = cond (eqb (s .part) 0) (isStartKind (s .kind)) (eqb (s .kind) (kindOf (s .part) (s .due)))
 
--- before the kind is read: nothing under way, the `FD`, or the `FD` and the picture code
+-- before the kind is read: nothing under way, the `FD`, or the `FD` and the picture code. Notice 49, 5(1)
 unfoldable pub kindUnread : State → Bool
 kindUnread s =
     cond (eqb (s .place) 0) (eqb (s .picture) 0 && eqb (s .check) 0)
     (cond (eqb (s .place) 1) (eqb (s .picture) 0)
     (eqb (s .place) 2 && isPictureCode (s .picture)))
 
--- after it is read
+-- after it is read.
+-- Notice 49, 4(1)(1-1)(b), (d)(イ) and (ウ), 4(1)(1-2)(b), (d)(イ) and (ウ), 4(2)(b), (d)(イ) and (ウ), 5(1)
 unfoldable pub kindRead : State → Bool
 kindRead s =
     allOf (
@@ -81,6 +83,9 @@ kindRead s =
     ∷ fitsPart s
     ∷ [])
 
+-- a possible state (01, row 2).
+-- Notice 49, 4(1)(1-1)(a), (b), (d)(イ) and (ウ), 4(1)(1-2)(a), (b), (d)(イ) and (ウ),
+-- 4(2)(a), (b), (d)(イ) and (ウ), 5(1)
 unfoldable pub isPossible : State → Bool
 isPossible s =
     allOf (

@@ -8,7 +8,8 @@ use Rattle.text.specs.Pictures.{isPictureCode}
 use Rattle.text.specs.Kinds.{isKind, isStartKind, kindOf, blockLength}
 use Rattle.receiver_state.specs.declared.state.Frame.{Frame}
 
--- place, kind and picture code fit each other and the part open: what isPossible asks of them. Notice 49, 4(1)(1-1)(b), (d)(イ) and 5(1)
+-- place, kind and picture code fit each other and the part open: what isPossible asks of them.
+-- Notice 49, 4(1)(1-1)(b), (d)(イ) and (ウ), 4(1)(1-2)(b), (d)(イ) and (ウ), 4(2)(b), (d)(イ) and (ウ), 5(1)
 unfoldable pub frameFits : Frame → Bool
 frameFits f =
     cond (eqb (f .kind) 0)

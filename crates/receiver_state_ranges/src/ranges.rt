@@ -23,7 +23,8 @@ fn is_due(part: u8, due: u8) -> bool
 }
 
 // Whether place, kind and picture code fit each other and the part open.
-// Notice 49, 4(1)(1-1)(b), (d)(イ) and 5(1)
+// Notice 49, 4(1)(1-1)(b), (d)(イ) and (ウ), 4(1)(1-2)(b), (d)(イ) and (ウ),
+// 4(2)(b), (d)(イ) and (ウ), 5(1)
 fn frame_fits(f: Frame) -> bool
     ensures { λ r. ⌜ r ≡ frameFits f ⌝ }
 {
@@ -39,15 +40,17 @@ fn frame_fits(f: Frame) -> bool
     if !is_kind(f.kind) {
         return false;
     }
-    let long = (3 <= f.place) & (f.place <= block_length(f.kind) + 2);
+    let placed = (3 <= f.place) & (f.place <= block_length(f.kind) + 2);
     let coded = is_picture_code(f.picture);
     if f.part == 0 {
-        return long & coded & (text_of_kind(f.kind) == 0);
+        return placed & coded & (text_of_kind(f.kind) == 0);
     }
-    long & coded & (f.kind == kind_of(f.part, f.due))
+    placed & coded & (f.kind == kind_of(f.part, f.due))
 }
 
-// Whether a state is possible (01, row 2)
+// Whether a state is possible (01, row 2).
+// Notice 49, 4(1)(1-1)(a), (b), (d)(イ) and (ウ), 4(1)(1-2)(a), (b), (d)(イ) and (ウ),
+// 4(2)(a), (b), (d)(イ) and (ウ), 5(1)
 pub fn is_possible(s: State) -> bool
     ensures { λ r. ⌜ r ≡ isPossible (stateOf s) ⌝ }
 {

@@ -37,7 +37,7 @@ openedText s =
     cond (eqb (s .frame .place) 0) (quietly s (atFirst (s .frame .part) (s .frame .due) (s .frame .count)))
     (begins s (atFirst 0 0 (s .frame .count)) 0 (Dropped 11) Clear)
 
--- between texts; due is the opening's due byte. Row 12. Notice 49, 4(1)(1-1)(a), 4(1)(1-2)(a), 4(2)(a)
+-- between texts; due is the opening's due byte. Row 12. Notice 49, 4(1)(1-1)(a) and (c)(ア), 4(1)(1-2)(a), 4(2)(a)
 unfoldable pub gapDecided : State → ℕ → ℕ → Decision
 gapDecided s due b =
     cond (eqb (s .frame .part) 0) (quietly s (atGap 0 0 (s .frame .count)))

@@ -42,11 +42,12 @@ pub fn decide(s: State, b: u8) -> Decision
     ensures { λ r. ⌜ r ≡ decide s b ⌝ }
 {
     let f = s.frame;
+    let place = f.place;
     let t = pushed_state(s, b);
-    if ends_opening(s.seen, f.count, b) {
+    let opens = ends_opening(s.seen, f.count, b);
+    if opens {
         return opened_text(t);
     }
-    let place = f.place;
     match place {
         0 => gap_decided(t, due_byte(s.seen, f.count), b),
         1 => picture_decided(t, b),

@@ -19,7 +19,7 @@ unfoldable pub allowedPrefix : ℕ → List ℕ → ℕ
 allowedPrefix p [] = 0
 allowedPrefix p (b ∷ bytes) = cond (isPayloadByte p b) (suc (allowedPrefix p bytes)) 0
 
--- and up to the block's end. Notice 49, 4(1)(1-1)(c)(エ), 4(1)(1-2)(c)(エ), 4(2)(c)(エ)
+-- and up to the block's end. Notice 49, 4(1)(1-1)(c)(エ) and (d)(ウ), 4(1)(1-2)(c)(エ) and (d)(ウ), 4(2)(c)(エ) and (d)(ウ)
 unfoldable pub payloadAhead : State → List ℕ → List ℕ → ℕ
 payloadAhead s g bytes =
     cond (isInPayload (s .frame) && eqb (length g) gridLength)

@@ -45,7 +45,7 @@ fn payload_base(f: Frame) -> usize
 }
 
 // Payload bytes one by one, as far as they keep their rule.
-// Notice 49, 4(1)(1-1)(c)(エ), 4(1)(1-2)(c)(エ), 4(2)(c)(エ)
+// Notice 49, 4(1)(1-1)(c)(エ) and (d)(ウ), 4(1)(1-2)(c)(エ) and (d)(ウ), 4(2)(c)(エ) and (d)(ウ)
 fn payload_run(s: State, grid: &mut [u8], bytes: &[u8]) -> StretchResult
     requires { ⌜ isInPayload (s .frame) ≡ true ⌝ }
     requires { ⌜ s .frame .place + length (now bytes) ≤ blockLength (s .frame .kind) ⌝ }
@@ -80,7 +80,7 @@ fn payload_run(s: State, grid: &mut [u8], bytes: &[u8]) -> StretchResult
 }
 
 // The same, all at once where every byte keeps its rule.
-// Notice 49, 4(1)(1-1)(c)(エ), 4(1)(1-2)(c)(エ), 4(2)(c)(エ)
+// Notice 49, 4(1)(1-1)(c)(エ) and (d)(ウ), 4(1)(1-2)(c)(エ) and (d)(ウ), 4(2)(c)(エ) and (d)(ウ)
 fn payload_passed(s: State, grid: &mut [u8], bytes: &[u8]) -> StretchResult
     requires { ⌜ isInPayload (s .frame) ≡ true ⌝ }
     requires { ⌜ s .frame .place + length (now bytes) ≤ blockLength (s .frame .kind) ⌝ }
@@ -112,7 +112,7 @@ fn least(a: usize, b: usize) -> usize
 
 // Past the payload bytes that stand here, up to the block's end and as far as they keep their rule;
 // none where no payload is under way, or the grid has another length.
-// Notice 49, 4(1)(1-1)(c)(エ), 4(1)(1-2)(c)(エ), 4(2)(c)(エ)
+// Notice 49, 4(1)(1-1)(c)(エ) and (d)(ウ), 4(1)(1-2)(c)(エ) and (d)(ウ), 4(2)(c)(エ) and (d)(ウ)
 pub fn payload_ahead(s: State, grid: &mut [u8], bytes: &[u8]) -> StretchResult
     ensures { λ r. ⌜ afterStretch r (now (grid .exit)) ≡ run s (now (grid .entry)) (take (payloadAhead s (now (grid .entry)) (now (bytes .entry))) (now (bytes .entry))) 0 ⌝ }
 {

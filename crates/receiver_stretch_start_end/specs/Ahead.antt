@@ -37,11 +37,12 @@ unfoldable pub idleLength : List ℕ → ℕ
 idleLength [] = 0
 idleLength (b ∷ bytes) = cond (eqb b FD) 0 (suc (idleLength bytes))
 
--- as far as each is the opening's due byte, up to the `FD`. Notice 49, 4(1)(1-1)(c)(ア)
+-- as far as each is the opening's due byte, up to the `FD`. Notice 49, 4(1)(1-1)(a) and (c)(ア), 4(1)(1-2)(a), 4(2)(a)
 unfoldable pub dueLength : ℕ → ℕ → List ℕ → ℕ
 dueLength v n [] = 0
 dueLength v n (b ∷ bytes) = cond (eqb b FD || not (eqb b (dueByte (seenOf v n)))) 0 (suc (dueLength (pushSeen v b) (pushCount n) bytes))
 
+-- either. Notice 49, 4(1)(1-1)(a) and (c)(ア), 4(1)(1-2)(a), 4(2)(a)
 unfoldable pub waitLength : State → List ℕ → ℕ
 waitLength s bytes =
     cond (isIdle (s .frame)) (idleLength bytes) (cond (isGap (s .frame)) (dueLength (s .seen) (s .frame .count) bytes) 0)
@@ -60,19 +61,21 @@ pub record Waited (s : State) (n : ℕ) (bytes : List ℕ) (r : StretchResult) :
   pub state-is : r .state ≡ waitedFor s (take n bytes)
   pub runs : Passes s (take n bytes) r
 
--- ---- a whole start or end text from its `FD` on, up to its last byte: 34 bytes, or none. Notice 49, 4(1)(1-1)(c)(ア) to (ウ)
+-- ---- a whole start or end text from its `FD` on, up to its last byte: 34 bytes, or none
 
+-- its block, 32 bytes. Notice 49, 4(1)(1-1)(b)(ア) and (ウ)
 abbrev pub blockAhead : List ℕ → List ℕ
 blockAhead bytes = take 32 bytes
 
+-- `FE` and the check byte behind it. Notice 49, 4(1)(1-1)(c)(ア)
 abbrev pub isFramed : List ℕ → Bool
 isFramed bytes = eqb (bytes ! 32) EOR && eqb (bytes ! 33) (checkByte (blockAhead bytes))
 
--- a start text. Notice 49, 4(1)(1-1)(c)(ア) and (イ)
+-- a start text. Notice 49, 4(1)(1-1)(c)(ア) and (イ), (d)(イ)
 unfoldable pub startAhead : List ℕ → ℕ
 startAhead bytes = cond (isFramed bytes && isStartBlock (blockAhead bytes)) 34 0
 
--- the due end text. Notice 49, 4(1)(1-1)(c)(ア) and (ウ)
+-- the due end text. Notice 49, 4(1)(1-1)(c)(ア) and (ウ), (d)(イ)
 unfoldable pub endAhead : State → List ℕ → ℕ
 endAhead s bytes =
     let block = blockAhead bytes in

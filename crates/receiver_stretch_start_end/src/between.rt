@@ -58,7 +58,7 @@ fn idle_run(s: State, bytes: &[u8]) -> StretchResult
 }
 
 // Bytes between an open part's texts, as far as each is the opening's due byte, up to the `FD` that
-// ends it. Notice 49, 4(1)(1-1)(c)(ア)
+// ends it. Notice 49, 4(1)(1-1)(a) and (c)(ア), 4(1)(1-2)(a), 4(2)(a)
 fn gap_run(s: State, bytes: &[u8]) -> StretchResult
     requires { ⌜ isGap (s .frame) ≡ true ⌝ }
     ensures { λ r. ⌜ Waited s (dueLength (s .seen) (s .frame .count) (now (bytes .entry))) (now (bytes .entry)) r ⌝ }
@@ -85,7 +85,8 @@ fn gap_run(s: State, bytes: &[u8]) -> StretchResult
     }
 }
 
-// Bytes between texts, where none is under way
+// Bytes between texts, where none is under way.
+// Notice 49, 4(1)(1-1)(a) and (c)(ア), 4(1)(1-2)(a), 4(2)(a)
 pub(crate) fn wait_run(s: State, bytes: &[u8]) -> StretchResult
     ensures { λ r. ⌜ Waited s (waitLength s (now (bytes .entry))) (now (bytes .entry)) r ⌝ }
 {

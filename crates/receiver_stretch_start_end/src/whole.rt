@@ -21,7 +21,7 @@ ghost use Rattle.receiver_stretches.specs.Run.{Passes};
 ghost use Rattle.receiver_stretch_start_end.specs.Ahead.{isIdle, startAhead, endAhead, textAhead};
 
 // Past a start text that stands here whole from its `FD` on, up to its last byte.
-// Notice 49, 4(1)(1-1)(c)(ア) and (イ)
+// Notice 49, 4(1)(1-1)(c)(ア) and (イ), (d)(イ)
 fn start_ahead(s: State, bytes: &[u8]) -> StretchResult
     requires { ⌜ isIdle (s .frame) ≡ true ⌝ }
     requires { ⌜ endsOpening (seenOf (s .seen) (s .frame .count)) FD ≡ true ⌝ }
@@ -55,7 +55,7 @@ fn start_ahead(s: State, bytes: &[u8]) -> StretchResult
 }
 
 // Past the due end text if it stands here whole from its `FD` on, up to its last byte.
-// Notice 49, 4(1)(1-1)(c)(ア) and (ウ)
+// Notice 49, 4(1)(1-1)(c)(ア) and (ウ), (d)(イ)
 fn end_ahead(s: State, bytes: &[u8]) -> StretchResult
     requires { ⌜ endsOpening (seenOf (s .seen) (s .frame .count)) FD ≡ true ⌝ }
     requires { ⌜ 34 ≤ length (now bytes) ⌝ }

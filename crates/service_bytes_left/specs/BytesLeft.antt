@@ -18,7 +18,8 @@ unfoldable pub answerOf : BytesLeftResult → LeftAnswer
 answerOf (Bytes n) = bytesLeft n
 answerOf (Refused n) = refused n
 
--- the most that a text has: five control bytes, a block of 2,003, and three bytes behind it
+-- the most that a text has: five control bytes, a block of 2,003, and three bytes behind it.
+-- Notice 49, 4(1)(1-1)(b)(イ)
 abbrev pub longest : ℕ
 longest = 2011
 

@@ -1,2 +1,3 @@
 -- The laws of counts, and the proofs of the functions beside them.
 pub mod Counting
+pub mod MeshesOfTexts

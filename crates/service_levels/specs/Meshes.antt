@@ -21,19 +21,19 @@ unfoldable pub countTo : List ℕ → ℕ → ℕ → ℕ
 countTo grid level zero = 0
 countTo grid level (suc n) = countTo grid level n + cond (leb level (levelOf grid (suc n))) 1 0
 
--- rows 41 to 43: the length of a grid
+-- row 42: the length of a grid
 abbrev pub isGrid : List ℕ → Bool
 isGrid grid = eqb (length grid) gridLength
 
--- no level 15 in it. Notice 49, 5(3)(3-1)
+-- row 43: no level 15 in it. Notice 49, 5(3)(3-1)
 abbrev pub hasNoLevel15 : List ℕ → Bool
 hasNoLevel15 grid = every isIntensityByte grid
 
--- a mesh number
+-- row 41: a mesh number
 abbrev pub isMesh : ℕ → Bool
 isMesh mesh = leb 1 mesh && leb mesh meshes
 
--- a level. Notice 49, 5(3)(3-1)
+-- row 41: a level. Notice 49, 5(3)(3-1)
 abbrev pub isLevel : ℕ → Bool
 isLevel level = leb level 14
 

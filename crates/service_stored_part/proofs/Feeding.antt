@@ -12,13 +12,12 @@ use Rattle.receiver_spec.specs.Receiver.{step}
 use Rattle.receiver_spec.specs.Calls.{CallOutcome, feed, sliceCall, ask, number, spread, answersOf, stateAfter, gridAfter}
 use Rattle.receiver_spec.specs.Demand3.{SliceTaken}
 use Rattle.general_laws.proofs.Tests.{by-if}
-use Rattle.receiver_spec.proofs.Laws.{PossibleOnGrid, fresh-sound, steps-sound, not-refused, slice-taken, answers-append, state-append, grid-append, answers-long}
+use Rattle.receiver_spec.proofs.Laws.{PossibleOnGrid, fresh-sound, steps-sound, not-refused, slice-taken, answers-append, state-append, grid-append, answers-long, spread-last}
 use Rattle.receiver_state.specs.Meaning.{stateOf, numberOf}
 use Rattle.receiver_state.specs.declared.state.State.{State}
-use Rattle.receiver_state.specs.declared.answer.Answer.{Answer}
-use Rattle.receiver_state.specs.declared.answer.Answer.the-variants.{Quiet, Begun, Taken, Complete, Dropped, Refused}
 use Rattle.receiver_byte_call.specs.Returned.{returned, replyOf}
 use Rattle.receiver_byte_call.specs.declared.calls.CallResult.{CallResult}
+use Rattle.receiver_byte_call.proofs.Laws.{number-same}
 
 abbrev pub fresh : Rattle.receiver_spec.specs.State.State
 fresh = Rattle.receiver_spec.specs.State.fresh
@@ -39,22 +38,9 @@ unfolding ask
 call-taken s g bytes h = slice-taken s g bytes (h .possible) (h .long)
 
 -- the last byte that a call took has its answer
-spread-last : (n a : ℕ) → spread (suc n) a ! n ≡ a
-spread-last zero a = refl
-spread-last (suc n) a = spread-last n a
-
 last-said : (n a : ℕ) → 1 ≤ n → spread n a ! (n - 1) ≡ a
 last-said zero a l = absurd (omega arith)
 last-said (suc n) a l = let e : suc n - 1 ≡ n = omega arith in ap (λ i. spread (suc n) a ! i) e ∙ spread-last n a
-
-number-same : (a : Answer) → number (replyOf a) ≡ numberOf a
-unfolding replyOf numberOf
-number-same Quiet = refl
-number-same Begun = refl
-number-same Taken = refl
-number-same (Complete part) = refl
-number-same (Dropped n) = refl
-number-same (Refused n) = refl
 
 -- after the bytes up to a place
 pub record FedUpTo (bytes : List ℕ) (s : State) (g : List ℕ) (answer at : ℕ) : Type 0 where

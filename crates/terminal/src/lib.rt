@@ -1,6 +1,6 @@
 // The one crate that a customer's program names: it passes on what such a program calls, and has no
-// code of its own. Every function answers for every value of its parameters, by an equation with a
-// definition (01, demand 1); its contract stands where it is declared.
+// code of its own. Every function answers for every value of its parameters (01, demand 1); its
+// contract stands where it is declared, an equation with a definition for all but `bytes_left`.
 
 // The receiver (01, "The receiver"): the state and the fresh one, a grid all 0, the byte call and the
 // slice call with what they return, and 01's numbers of answers

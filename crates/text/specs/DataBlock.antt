@@ -39,7 +39,8 @@ isTopByte b = leb b 8
 unfoldable pub isQualityByte : ℕ → Bool
 isQualityByte b = leb b 0x3F || eqb b 0x40
 
--- The payload bytes of a part; none where there is no such part. Notice 49, 4(1)(1-1)(d)(ウ), 4(1)(1-2)(d)(ウ), 4(2)(d)(ウ)
+-- The payload bytes of a part; none where there is no such part.
+-- Notice 49, 4(1)(1-1)(d)(ウ), 4(1)(1-2)(d)(ウ), 4(2)(d)(ウ), 5(3)(3-1) and (3-2)
 unfoldable pub isPayloadByte : ℕ → ℕ → Bool
 isPayloadByte p b = cond (eqb p 1) (isIntensityByte b) (cond (eqb p 2) (isTopByte b) (cond (eqb p 3) (isQualityByte b) false))
 

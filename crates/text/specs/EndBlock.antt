@@ -10,7 +10,7 @@ use Rattle.text.specs.Pictures.{isPictureCode}
 use Rattle.text.specs.Kinds.{isEndKind}
 use Rattle.text.specs.StartBlock.{modeOf, hasMode}
 
--- the eight places of radars and modes
+-- the eight places of radars and modes. Notice 49, 4(1)(1-1)(c)(イ) and (ウ)
 abbrev pub radarPlaces : List ℕ
 radarPlaces = 0 ∷ 1 ∷ 2 ∷ 3 ∷ 4 ∷ 5 ∷ 6 ∷ 7 ∷ []
 

@@ -64,6 +64,7 @@ isStartKind b = isKind b && eqb (textNumber b) 0
 unfoldable pub isEndKind : ℕ → Bool
 isEndKind b = isKind b && eqb (textNumber b) 11
 
+-- A data kind. Notice 49, 4(1)(1-1)(d)(ウ), 4(1)(1-2)(d)(ウ), 4(2)(d)(ウ)
 unfoldable pub isDataKind : ℕ → Bool
 isDataKind b = isKind b && not (eqb (textNumber b) 0 || eqb (textNumber b) 11)
 
@@ -76,7 +77,7 @@ dataBlockLength p = cond (eqb p 1) 2003 (cond (eqb p 2) 403 (cond (eqb p 3) 103 
 unfoldable pub blockLength : ℕ → ℕ
 blockLength b = cond (isDataKind b) (dataBlockLength (partOf b)) (cond (isKind b) 32 0)
 
--- A text has five bytes before its block and three after it
+-- A text has five bytes before its block and three after it. Notice 49, 4(1)(1-1)(b), 4(1)(1-2)(b), 4(2)(b)
 abbrev pub textLength : ℕ → ℕ
 textLength block = block + 8
 

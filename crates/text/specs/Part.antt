@@ -14,19 +14,20 @@ use Rattle.text.specs.DataBlock.{isDataBlock, payloadOf}
 use Rattle.text.specs.EndBlock.{isEndBlock, modesOf, highest}
 use Rattle.text.specs.declared.header.Header.{Header}
 
--- A block that keeps its rules. An end block keeps them for some start block's radars
+-- A block that keeps its rules. An end block keeps them for some start block's radars.
+-- Notice 49, 4(1)(1-1)(c)(イ) to (エ), (d)(イ) and (ウ), 4(1)(1-2)(c)(エ) and (d)(ウ), 4(2)(c)(エ) and (d)(ウ)
 pub data Block : List ℕ → Type 0 where
   startBlock : {block : List ℕ} → isStartBlock block ≡ true → Block block
   dataBlock : {block : List ℕ} → isDataBlock block ≡ true → Block block
   endBlock : {block : List ℕ} (radars : List ℕ) → isRadarList radars ≡ true → isEndBlock radars block ≡ true → Block block
 
--- 01: an *undamaged text*
+-- 01: an *undamaged text*. Notice 49, 4(1)(1-1)(b), 4(1)(1-2)(b), 4(2)(b)
 pub record UndamagedText (bytes : List ℕ) : Type 0 where
   pub block : List ℕ
   pub rules : Block block
   pub framed : bytes ≡ textOf block
 
--- 01: an undamaged start text
+-- 01: an undamaged start text. Notice 49, 4(1)(1-1)(b)(ア)
 pub record StartText (bytes : List ℕ) : Type 0 where
   pub block : List ℕ
   pub rules : isStartBlock block ≡ true
@@ -38,7 +39,7 @@ pub record Part : Type 0 where
   pub datas : List (List ℕ)
   pub end : List ℕ
 
--- texts with nothing between
+-- texts with nothing between. Notice 49, 4(1)(1-1)(a), 4(1)(1-2)(a), 4(2)(a)
 unfoldable pub textsOf : List (List ℕ) → List ℕ
 textsOf [] = []
 textsOf (block ∷ blocks) = textOf block ++ textsOf blocks
@@ -47,11 +48,12 @@ textsOf (block ∷ blocks) = textOf block ++ textsOf blocks
 unfoldable pub partBytes : Part → List ℕ
 partBytes p = textOf (p .start) ++ (textsOf (p .datas) ++ textOf (p .end))
 
--- a block's picture code and kind, and those of part p's text t of picture q
+-- a block's picture code and kind are those of part p's text t of picture q.
+-- Notice 49, 4(1)(1-1)(a), (d)(イ) and (ウ), 4(1)(1-2)(a), (d)(イ) and (ウ), 4(2)(a), (d)(イ) and (ウ)
 abbrev pub isTextOf : ℕ → ℕ → ℕ → List ℕ → Bool
 isTextOf q p t block = eqb (block ! 1) q && eqb (block ! 2) (kindOf p t)
 
--- data texts in order, from data text k on
+-- data texts in order, from data text k on. Notice 49, 4(1)(1-1)(a), 4(1)(1-2)(a), 4(2)(a)
 unfoldable pub inOrder : ℕ → ℕ → ℕ → List (List ℕ) → Bool
 inOrder q p k [] = true
 inOrder q p k (block ∷ blocks) = isDataBlock block && isTextOf q p k block && inOrder q p (suc k) blocks
@@ -59,7 +61,7 @@ inOrder q p k (block ∷ blocks) = isDataBlock block && isTextOf q p k block && 
 abbrev pub startPart : List ℕ → ℕ
 startPart start = partOf (start ! 2)
 
--- how many data texts follow a start block
+-- how many data texts follow a start block. Notice 49, 4(1)(1-1)(a), 4(1)(1-2)(a), 4(2)(a), 4(1)(1-1)(d)(イ)
 abbrev pub dataTextsAfter : List ℕ → ℕ
 dataTextsAfter start = dataTexts (startPart start) (noEchoOf (start ! 4))
 
@@ -82,7 +84,7 @@ pub record UndamagedPart (bytes : List ℕ) : Type 0 where
   pub rules : isPart part ≡ true
   pub framed : bytes ≡ partBytes part
 
--- What a part says. 01: its grid is the payload of its data texts in order, then zeros
+-- What a part says: grid, header and modes. A grid is 20,000 bytes
 abbrev pub gridLength : ℕ
 gridLength = 20000
 
@@ -93,6 +95,7 @@ payloadsOf (block ∷ blocks) = payloadOf block ++ payloadsOf blocks
 unfoldable pub zeros : ℕ → List ℕ
 zeros n = replicate n 0
 
+-- 01: a part's grid is the payload of its data texts in order, then zeros
 unfoldable pub gridOf : Part → List ℕ
 gridOf p = payloadsOf (p .datas) ++ zeros (gridLength - length (payloadsOf (p .datas)))
 
@@ -115,9 +118,12 @@ radarsFor block =
     radarFor 0xA0 (block ! 3) ∷ radarFor 0xA1 (block ! 4) ∷ radarFor 0xA2 (block ! 5) ∷ radarFor 0xA3 (block ! 6)
     ∷ radarFor 0xA4 (block ! 7) ∷ radarFor 0xA5 (block ! 8) ∷ radarFor 0xA7 (block ! 9) ∷ radarFor 0xA8 (block ! 10) ∷ []
 
+-- whether a block keeps its rules.
+-- Notice 49, 4(1)(1-1)(c)(イ) to (エ), (d)(イ) and (ウ), 4(1)(1-2)(c)(エ) and (d)(ウ), 4(2)(c)(エ) and (d)(ウ)
 unfoldable pub isBlock : List ℕ → Bool
 isBlock block = isStartBlock block || isDataBlock block || isRadarList (radarsFor block) && isEndBlock (radarsFor block) block
 
+-- whether bytes are an undamaged text. Notice 49, 4(1)(1-1)(b), 4(1)(1-2)(b), 4(2)(b)
 unfoldable pub isUndamagedText : List ℕ → Bool
 isUndamagedText bytes = same bytes (textOf (blockIn bytes)) && isBlock (blockIn bytes)
 

@@ -30,6 +30,7 @@ oneOf true true true = 0
 unfoldable pub modeOf : ℕ → ℕ
 modeOf b = oneOf (bit b 2) (bit b 4) (bit b 6)
 
+-- Exactly one mode bit is set. Notice 49, 4(1)(1-1)(d)(イ)
 unfoldable pub hasMode : ℕ → Bool
 hasMode b = not (eqb (modeOf b) 0)
 
@@ -66,6 +67,7 @@ isMoment y m d h n =
 unfoldable pub yearOf : List ℕ → ℕ
 yearOf ds = ds ! 0 * 1000 + ds ! 1 * 100 + ds ! 2 * 10 + ds ! 3
 
+-- The number that two digits give. Notice 49, 4(1)(1-1)(d)(イ)
 abbrev pub twoDigits : ℕ → ℕ → ℕ
 twoDigits tens ones = tens * 10 + ones
 
@@ -75,21 +77,23 @@ isTime ds =
     every (λ d. leb d 9) ds
     && isMoment (yearOf ds) (twoDigits (ds ! 4) (ds ! 5)) (twoDigits (ds ! 6) (ds ! 7)) (twoDigits (ds ! 8) (ds ! 9)) (twoDigits (ds ! 10) (ds ! 11))
 
--- The time in ASCII, `YYYY.MM.DD.hh.mm`: where its digits and its stops stand. Notice 49, 4(1)(1-1)(d)(イ)
+-- The time in ASCII, `YYYY.MM.DD.hh.mm`: where its digits stand. Notice 49, 4(1)(1-1)(c)(イ) and (d)(イ)
 abbrev pub digitPlaces : List ℕ
 digitPlaces = 0 ∷ 1 ∷ 2 ∷ 3 ∷ 5 ∷ 6 ∷ 8 ∷ 9 ∷ 11 ∷ 12 ∷ 14 ∷ 15 ∷ []
 
+-- where its stops stand. Notice 49, 4(1)(1-1)(c)(イ)
 abbrev pub stopPlaces : List ℕ
 stopPlaces = 4 ∷ 7 ∷ 10 ∷ 13 ∷ []
 
+-- a digit's character. Notice 49, 4(1)(1-1)(d)(イ)
 unfoldable pub isDigit : ℕ → Bool
 isDigit char = leb 0x30 char && leb char 0x39
 
--- the twelve digits, as numbers. Notice 49, 4(1)(1-1)(d)(イ)
+-- the twelve digits, as numbers. Notice 49, 4(1)(1-1)(c)(イ) and (d)(イ)
 unfoldable pub digitsOf : List ℕ → List ℕ
 digitsOf chars = map (λ i. chars ! i - 0x30) digitPlaces
 
--- The time in ASCII, `YYYY.MM.DD.hh.mm`, of a moment that there is. Notice 49, 4(1)(1-1)(d)(イ)
+-- The time in ASCII, `YYYY.MM.DD.hh.mm`, of a moment that there is. Notice 49, 4(1)(1-1)(c)(イ) and (d)(イ)
 unfoldable pub isTimeText : List ℕ → Bool
 isTimeText chars =
     allOf (
@@ -121,11 +125,11 @@ isRadarList rs = allOf (leb (length rs) 8 ∷ not (eqb (rs ! 0) 0) ∷ rising 0 
 unfoldable pub follows : ℕ → ℕ → Bool
 follows before r = eqb r 0 || isRadarCode r && not (eqb before 0) && ltb before r
 
--- Where time and radars stand. Notice 49, 4(1)(1-1)(c)(イ)
+-- Where the time stands. Notice 49, 4(1)(1-1)(c)(イ)
 abbrev pub timeTextOf : List ℕ → List ℕ
 timeTextOf block = take 16 (drop 8 block)
 
--- the radars. Notice 49, 4(1)(1-1)(c)(イ)
+-- Where the radars stand. Notice 49, 4(1)(1-1)(c)(イ)
 abbrev pub radarsOf : List ℕ → List ℕ
 radarsOf block = take 8 (drop 24 block)
 

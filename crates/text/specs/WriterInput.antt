@@ -27,5 +27,6 @@ unfoldable pub isWriterHeader : WriterHeader → Bool
 isWriterHeader h =
     allOf (isPictureCode (h .picture) ∷ leb (h .clock) 16383 ∷ isTime (h .time) ∷ isRadarList (h .radars) ∷ [])
 
+-- what a writer takes: such a header, and modes for its radars (01, row 32). Notice 49, 4(1)(1-1)(c)(イ) and (d)(イ)
 unfoldable pub isWriterInput : WriterHeader → List ℕ → Bool
 isWriterInput h modes = isWriterHeader h && areModesFor (h .radars) modes

@@ -6,7 +6,7 @@ ghost use lib.Dec.{leb};
 ghost use Rattle.general_laws.specs.Bytes.{_!_, every};
 ghost use Rattle.text.specs.StartBlock.{twoDigits, isTime};
 
-// The number that the two digits at place i and the next give
+// The number that the two digits at place i and the next give. Notice 49, 4(1)(1-1)(d)(イ)
 fn two_digits(time: [u8; 12], i: usize) -> u32
     requires { ⌜ i < 11 ⌝ }
     ensures { λ r. ⌜ r ≡ twoDigits (time ! i) (time ! (i + 1)) ⌝ }
@@ -14,6 +14,7 @@ fn two_digits(time: [u8; 12], i: usize) -> u32
     (time[i] as u32) * 10 + (time[i + 1] as u32)
 }
 
+// Whether twelve numbers are digits, 0 to 9. Notice 49, 4(1)(1-1)(d)(イ)
 fn are_digits(time: [u8; 12]) -> bool
     ensures { λ r. ⌜ r ≡ every (λ d. leb d 9) time ⌝ }
 {

@@ -34,7 +34,8 @@ pub fn is_writer_header(header: WriterHeader) -> bool
     known & (header.clock <= 16383) & timed & listed
 }
 
-// Whether a writer takes this header with these modes (01, row 32)
+// Whether a writer takes this header with these modes (01, row 32).
+// Notice 49, 4(1)(1-1)(c)(イ) and (d)(イ)
 pub fn is_writer_input(header: WriterHeader, modes: [u8; 8]) -> bool
     ensures { λ r. ⌜ r ≡ isWriterInput header modes ⌝ }
 {

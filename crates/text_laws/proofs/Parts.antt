@@ -6,8 +6,8 @@ use Prim.Native.Nat.{ℕ, suc, _+_, _*_, _-_, _≤_, _<_}
 use native.Mathlib.Nat.{suc-mul, zero-mul}
 use native.Mathlib.Omega.{arith}
 use lib.Dec.{eqb, lit≤}
-use lib.ListN.{length, take, drop, replicate, length-append, length-drop, length-replicate}
-use lib.Seq.{take-at, drop-at, drop-drop, take-take, getD-take, getD-drop}
+use lib.ListN.{length, take, drop, replicate, length-append, length-drop, length-replicate, List·getD-append}
+use lib.Seq.{take-at, drop-at, drop-drop, take-take, getD-take, getD-drop, getD-append-add}
 use borrow.Author.Tests.{eqb-true}
 use Rattle.general_laws.specs.Bytes.{_!_}
 use Rattle.text.specs.Text.{controlB, textOf}
@@ -235,3 +235,26 @@ grid-length p h =
 pub zeros-long : (n : ℕ) → length (zeros n) ≡ n
 unfolding zeros
 zeros-long n = length-replicate {A = ℕ} n 0
+
+-- Where a data text's payload byte stands in the grid: behind the payloads of the data texts before it
+payload-place : {n : ℕ} (earlier : List (List ℕ)) (block : List ℕ) (later : List (List ℕ)) (behind : List ℕ) → Sized n (earlier ++ (block ∷ later))
+    → (i : ℕ) → i < n - 3 → (payloadsOf (earlier ++ (block ∷ later)) ++ behind) ! (length earlier * (n - 3) + i) ≡ payloadOf block ! i
+unfolding payloadsOf
+payload-place {n} [] block later behind (one l s) i small =
+    ap₂ (λ (t : List ℕ) j. t ! j) (append-assoc (payloadOf block) (payloadsOf later) behind) (omega (arith, zero-mul (n - 3)))
+    ∙ List·getD-append (payloadOf block) (payloadsOf later ++ behind) 0 i (omega (arith, length-drop 3 block, l, small))
+payload-place {n} (first ∷ earlier) block later behind (one l s) i small =
+    let long : length (payloadOf first) ≡ n - 3 = omega (arith, length-drop 3 first, l) in
+    ap₂ (λ (t : List ℕ) j. t ! j) (append-assoc (payloadOf first) (payloadsOf (earlier ++ (block ∷ later))) behind)
+    (omega (arith, long, suc-mul (length earlier) (n - 3)))
+    ∙ getD-append-add (payloadOf first) (payloadsOf (earlier ++ (block ∷ later)) ++ behind) (length earlier * (n - 3) + i) 0
+    ∙ payload-place earlier block later behind s i small
+
+pub grid-place : (p : Part) → isPart p ≡ true → (earlier : List (List ℕ)) (block : List ℕ) (later : List (List ℕ)) → p .datas ≡ earlier ++ (block ∷ later)
+    → (i : ℕ) → i < dataBlockLength (startPart (p .start)) - 3
+    → gridOf p ! (length earlier * (dataBlockLength (startPart (p .start)) - 3) + i) ≡ payloadOf block ! i
+unfolding gridOf
+grid-place p h earlier block later e i small =
+    let n = dataBlockLength (startPart (p .start)) in
+    ap (λ blocks. (payloadsOf blocks ++ zeros (gridLength - length (payloadsOf (p .datas)))) ! (length earlier * (n - 3) + i)) e
+    ∙ payload-place earlier block later (zeros (gridLength - length (payloadsOf (p .datas)))) (subst (Sized n) e (datas-sized p h)) i small

@@ -38,14 +38,14 @@ fn broken() -> StartRead
     }
 }
 
-// Whether a character is a digit
+// Whether a character is a digit. Notice 49, 4(1)(1-1)(d)(イ)
 fn is_digit(char: u8) -> bool
     ensures { λ r. ⌜ r ≡ isDigit char ⌝ }
 {
     (0x30 <= char) & (char <= 0x39)
 }
 
-// Whether digits stand where the time has them. Notice 49, 4(1)(1-1)(d)(イ)
+// Whether digits stand where the time has them. Notice 49, 4(1)(1-1)(c)(イ) and (d)(イ)
 fn has_digits(chars: &[u8]) -> bool
     requires { ⌜ length (now chars) ≡ 16 ⌝ }
     ensures { λ r. ⌜ r ≡ every (λ i. isDigit (now (chars .entry) ! i)) digitPlaces ⌝ }
@@ -59,7 +59,7 @@ fn has_digits(chars: &[u8]) -> bool
     year & day & minute
 }
 
-// Whether stops stand where the time has them. Notice 49, 4(1)(1-1)(d)(イ)
+// Whether stops stand where the time has them. Notice 49, 4(1)(1-1)(c)(イ) and (d)(イ)
 fn has_stops(chars: &[u8]) -> bool
     requires { ⌜ length (now chars) ≡ 16 ⌝ }
     ensures { λ r. ⌜ r ≡ every (λ i. eqb (now (chars .entry) ! i) 0x2E) stopPlaces ⌝ }
@@ -67,7 +67,7 @@ fn has_stops(chars: &[u8]) -> bool
     (chars[4] == 0x2E) & (chars[7] == 0x2E) & (chars[10] == 0x2E) & (chars[13] == 0x2E)
 }
 
-// The twelve digits of the time, as numbers. Notice 49, 4(1)(1-1)(d)(イ)
+// The twelve digits of the time, as numbers. Notice 49, 4(1)(1-1)(c)(イ) and (d)(イ)
 fn digits_of(chars: &[u8]) -> [u8; 12]
     requires { ⌜ length (now chars) ≡ 16 ⌝ }
     requires { ⌜ every (λ i. isDigit (now chars ! i)) digitPlaces ≡ true ⌝ }

@@ -10,7 +10,7 @@ ghost use Prim.Native.Nat.{_≤_};
 ghost use Rattle.general_laws.specs.Bytes.{every};
 ghost use Rattle.writer_spec.specs.Written.{timeText, startContents, endContents};
 
-// The time in ASCII, `YYYY.MM.DD.hh.mm`. Notice 49, 4(1)(1-1)(d)(イ)
+// The time in ASCII, `YYYY.MM.DD.hh.mm`. Notice 49, 4(1)(1-1)(c)(イ) and (d)(イ)
 fn time_text(digits: [u8; 12]) -> [u8; 16]
     requires { ⌜ every (λ d. leb d 9) digits ≡ true ⌝ }
     ensures { λ r. ⌜ r ≡ timeText digits ⌝ }

@@ -9,7 +9,8 @@ ghost use Rattle.text.specs.Text.{textOf};
 ghost use Rattle.writer_spec.specs.Written.{blockOf};
 
 // Writes a text at the front of the output: control bytes, block, `FE`, check byte, `FF`.
-// Notice 49, 4(1)(1-1)(c)(ア)
+// Notice 49, 4(1)(1-1)(b)(ア) to (ウ), (c)(ア) to (エ), (d)(イ) and (ウ),
+// 4(1)(1-2)(c)(エ), (d)(イ) and (ウ), 4(2)(c)(エ), (d)(イ) and (ウ)
 pub(crate) fn write_text(output: &mut [u8], picture: u8, kind: u8, contents: &[u8])
     requires { ⌜ length (now contents) + 11 ≤ length (now output) ⌝ }
     ensures { λ r. ⌜ now (output .exit) ≡ sets (now (output .entry)) 0 (textOf (blockOf picture kind (now (contents .entry)))) ⌝ }

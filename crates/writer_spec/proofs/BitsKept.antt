@@ -11,8 +11,12 @@ use Rattle.general_laws.proofs.Tests.{every-in}
 use Rattle.writer_spec.specs.Written.{statusByte}
 use Rattle.writer_spec.specs.Demand2.{plainStatus, plainMode}
 
-abbrev pub bits : List ℕ
+abbrev bits : List ℕ
 bits = 0 ∷ 1 ∷ 2 ∷ 3 ∷ 4 ∷ 5 ∷ 6 ∷ 7 ∷ []
+
+all-bits : (k : ℕ) → k < 8 → isIn k bits ≡ true
+unfolding isIn
+all-bits = same-tests 8 (λ k. isIn k bits) (λ _. true) tt
 
 -- two truth values are the same
 abbrev alike : Bool → Bool → Bool
@@ -37,9 +41,9 @@ mode-table : (b : ℕ) → b < 256 → modeKept b ≡ true
 unfolding hasMode modeOf modeByte bit isIn every
 mode-table = same-tests 256 modeKept (λ _. true) tt
 
-pub mode-bits : (b : ℕ) → b < 256 → hasMode b ≡ true → (k : ℕ) → isIn k bits ≡ true → bit (plainMode b) k ≡ (isIn k (2 ∷ 4 ∷ 6 ∷ []) && bit b k)
+pub mode-bits : (b : ℕ) → b < 256 → hasMode b ≡ true → (k : ℕ) → k < 8 → bit (plainMode b) k ≡ (isIn k (2 ∷ 4 ∷ 6 ∷ []) && bit b k)
 mode-bits b small h k m =
-    alike-same _ _ (every-in (λ k. alike (bit (plainMode b) k) (isIn k (2 ∷ 4 ∷ 6 ∷ []) && bit b k)) bits k (given (hasMode b) _ h (mode-table b small)) m)
+    alike-same _ _ (every-in (λ k. alike (bit (plainMode b) k) (isIn k (2 ∷ 4 ∷ 6 ∷ []) && bit b k)) bits k (given (hasMode b) _ h (mode-table b small)) (all-bits k m))
 
 -- status 1 keeps bit 3, and none in quality
 status-table : (e : Bool) → every (λ k. alike (bit (statusByte e) k) (eqb k 3 && e)) bits ≡ true
@@ -47,6 +51,6 @@ unfolding statusByte bit every
 status-table true = refl
 status-table false = refl
 
-pub status-bits : (p b k : ℕ) → isIn k bits ≡ true → bit (plainStatus p b) k ≡ (eqb k 3 && (bit b 3 && not (eqb p 3)))
+pub status-bits : (p b k : ℕ) → k < 8 → bit (plainStatus p b) k ≡ (eqb k 3 && (bit b 3 && not (eqb p 3)))
 unfolding noEchoOf
-status-bits p b k m = alike-same _ _ (every-in (λ k. alike (bit (statusByte (bit b 3 && not (eqb p 3))) k) (eqb k 3 && (bit b 3 && not (eqb p 3)))) bits k (status-table (bit b 3 && not (eqb p 3))) m)
+status-bits p b k m = alike-same _ _ (every-in (λ k. alike (bit (statusByte (bit b 3 && not (eqb p 3))) k) (eqb k 3 && (bit b 3 && not (eqb p 3)))) bits k (status-table (bit b 3 && not (eqb p 3))) (all-bits k m))

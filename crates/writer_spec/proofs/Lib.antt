@@ -2,6 +2,7 @@
 pub mod RulesKept
 pub mod DataBlocks
 pub mod ReadsBack
+pub mod Taking
 pub mod Places
 pub mod WrittenAgain
 pub mod HeldPart

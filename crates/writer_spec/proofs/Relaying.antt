@@ -13,15 +13,11 @@ use Rattle.text.specs.declared.header.Header.{Header}
 use Rattle.receiver_spec.specs.State.{fresh, emptyGrid}
 use Rattle.receiver_spec.specs.Calls.{partComplete, number, CallOutcome, Request, byte, slice, Call, onGrid, ask, bytesOf, spread, After, start, add, next, received}
 use Rattle.receiver_spec.specs.Demand3.{EndsUndamaged}
-use Rattle.receiver_spec.proofs.Laws.{demand-3, after-last, calls-stepped, answers-long}
+use Rattle.receiver_spec.proofs.Laws.{demand-3, after-last, calls-stepped, answers-long, spread-last}
 use Rattle.writer_spec.specs.Written.{writes}
 use Rattle.writer_spec.specs.Demand2.{heldPart, heldPayload, Relayed}
 use Rattle.writer_spec.proofs.ReadsBack.{reads-back}
 use Rattle.writer_spec.proofs.Rewriting.{rewritten}
-
-spread-last : (n a : ℕ) → spread (suc n) a ! n ≡ a
-spread-last zero a = refl
-spread-last (suc n) a = spread-last n a
 
 one-more : (n : ℕ) → 1 ≤ n → suc (n - 1) ≡ n
 one-more n l = omega arith
@@ -30,7 +26,7 @@ at-least-one : (n : ℕ) → (n ≡ 0 → ⊥) → 1 ≤ n
 at-least-one zero f = absurd (f refl)
 at-least-one (suc n) f = omega arith
 
-module _ (calls : List Call) (r : Request) (p : ℕ) (complete : ask (received calls .state) (received calls .grid) r .reply ≡ partComplete p) where
+module _ (calls : List Call) (r : Request) (complete : number (ask (received calls .state) (received calls .grid) r .reply) ≡ 3) where
   abbrev a : After
   a = received calls
 
@@ -48,11 +44,11 @@ module _ (calls : List Call) (r : Request) (p : ℕ) (complete : ask (received c
   some-taken : (1 ≤ outcome .count) × (outcome .count ≤ length (bytesOf r))
   some-taken = counts r complete (received (calls ++ (onGrid r ∷ []))) (demand-3 list .each calls (onGrid r) [] refl)
     where
-      counts : (r : Request) → ask (a .state) (a .grid) r .reply ≡ partComplete p
+      counts : (r : Request) → number (ask (a .state) (a .grid) r .reply) ≡ 3
           → (z : After) → Rattle.receiver_spec.specs.Demand3.CallMade a (onGrid r) z → (1 ≤ ask (a .state) (a .grid) r .count) × (ask (a .state) (a .grid) r .count ≤ length (bytesOf r))
-      counts (byte b) e z (made, here) = let one : ask (a .state) (a .grid) (byte b) .count ≡ 1 = ap (λ (o : CallOutcome). o .count) made in (omega (arith, one), omega (arith, one))
+      counts (byte b) e z (made, told, here) = let one : ask (a .state) (a .grid) (byte b) .count ≡ 1 = ap (λ (o : CallOutcome). o .count) made in (omega (arith, one), omega (arith, one))
       counts (slice bytes) e z (made, here) =
-          (at-least-one _ (λ none. omega (arith, ap number (sym (made .none none) ∙ e))), made .within)
+          (at-least-one _ (λ none. omega (arith, ap number (made .none none), e)), made .within)
 
   abbrev n : ℕ
   n = outcome .count - 1
@@ -78,7 +74,7 @@ module _ (calls : List Call) (r : Request) (p : ℕ) (complete : ask (received c
       let place : length front ≡ length (a .said) + n = length-append (a .taken) (take n (bytesOf r)) ∙ omega (arith, same, length-take-le n (bytesOf r) (omega (arith, some, most))) in
       ap₂ (λ (t : List ℕ) i. t ! i) (ap (λ (z : After). z .said) here) place
       ∙ getD-append-add (a .said) (spread (outcome .count) (number (outcome .reply))) n 0
-      ∙ ap₂ (λ m k. spread m k ! n) (sym (one-more (outcome .count) some)) (ap number complete)
+      ∙ ap₂ (λ m k. spread m k ! n) (sym (one-more (outcome .count) some)) complete
       ∙ spread-last n 3
 
   ends : EndsUndamaged (front ++ (last ∷ []))
@@ -90,26 +86,28 @@ module _ (calls : List Call) (r : Request) (p : ℕ) (complete : ask (received c
   split : received list .taken ≡ ends .before ++ ends .part
   split = taken-is ∙ ends .split
 
-  tells : p ≡ heldPart (u .part)
-  tells = demand-3 list .completeTells calls r [] refl p complete (ends .before) (ends .part) u split
+  tells : outcome .reply ≡ partComplete (heldPart (u .part))
+  tells = demand-3 list .completeTells calls r [] refl complete (ends .before) (ends .part) u split
+
+  abbrev p : ℕ
+  p = heldPart (u .part)
 
   -- what is held is the part's
   handed : writes p (writerHeaderOf (received list .state .header)) (received list .state .modes) (take (payloadLength p) (received list .grid))
-      ≡ writes (heldPart (u .part)) (writerHeaderOf (partHeader (u .part))) (partModes (u .part)) (heldPayload (u .part))
+      ≡ writes p (writerHeaderOf (partHeader (u .part))) (partModes (u .part)) (heldPayload (u .part))
   handed =
       let (header, modes, grid) = demand-3 list .held list [] (sym (append-nil list)) (ends .before) (ends .part) u split in
-      ap (λ q. writes q (writerHeaderOf (received list .state .header)) (received list .state .modes) (take (payloadLength q) (received list .grid))) tells
-      ∙ ap₂ (λ (h : Header) m. writes (heldPart (u .part)) (writerHeaderOf h) m (take (payloadLength (heldPart (u .part))) (received list .grid))) header modes
-      ∙ ap (λ g. writes (heldPart (u .part)) (writerHeaderOf (partHeader (u .part))) (partModes (u .part)) (take (payloadLength (heldPart (u .part))) g)) grid
+      ap₂ (λ (h : Header) m. writes p (writerHeaderOf h) m (take (payloadLength p) (received list .grid))) header modes
+      ∙ ap (λ g. writes p (writerHeaderOf (partHeader (u .part))) (partModes (u .part)) (take (payloadLength p) g)) grid
 
-  pub relay : Relayed calls r p
+  pub relay : Relayed calls r
   relay =
       record {
         before = ends .before;
         bytes = ends .part;
         split = split;
         whole = u;
-        number = tells;
+        tells = tells;
         taken = λ output room. ap (λ f. f output) handed ∙ reads-back _ _ _ _ (rewritten (ends .part) u .taken) .placed output room;
         rewritten = rewritten (ends .part) u;
       }

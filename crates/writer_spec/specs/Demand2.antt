@@ -7,17 +7,17 @@ use mathlib.Core.List.{List, [], _∷_, _++_, map}
 use lib.Dec.{eqb}
 use lib.ListN.{length, take, drop}
 use lib.Seq.{sets}
-use Rattle.general_laws.specs.Bytes.{_!_, isIn, every}
+use Rattle.general_laws.specs.Bytes.{_!_, bit, isIn, every}
 use Rattle.text.specs.Text.{checkByte, textOf}
 use Rattle.text.specs.Kinds.{isPartNumber, partLength, payloadLength}
-use Rattle.text.specs.StartBlock.{noEchoOf, modeOf, modeByte}
+use Rattle.text.specs.StartBlock.{noEchoOf, modeOf, modeByte, hasMode}
 use Rattle.text.specs.EndBlock.{highest}
 use Rattle.text.specs.Part.{Part, partBytes, startPart, dataTextsAfter, UndamagedPart, gridLength, zeros, gridOf, partHeader, partModes}
 use Rattle.text.specs.WriterInput.{writerHeaderOf, isWriterInput}
 use Rattle.text.specs.declared.header.Header.{Header}
 use Rattle.text.specs.declared.header.WriterHeader.{WriterHeader}
-use Rattle.receiver_spec.specs.Calls.{partComplete, Request, Call, onGrid, ask, received, singly}
-use Rattle.writer_spec.specs.Written.{writesNoEcho, statusByte, writtenPart, isPayload, bytesWritten, writes}
+use Rattle.receiver_spec.specs.Calls.{partComplete, number, Request, Call, onGrid, ask, received, singly}
+use Rattle.writer_spec.specs.Written.{writesNoEcho, statusByte, writtenPart, isPayload, bytesWritten, refused, writes}
 
 -- What the writer takes: rows 31 to 33 do not refuse it, and header and modes have the lengths of the code's arrays
 pub record Accepted (p : ℕ) (h : WriterHeader) (modes payload : List ℕ) : Type 0 where
@@ -90,14 +90,15 @@ endPlaces = 8 ∷ 9 ∷ 10 ∷ 11 ∷ 12 ∷ 13 ∷ 14 ∷ 15 ∷ 38 ∷ []
 abbrev pub mayDiffer : List ℕ → ℕ → Bool
 mayDiffer bytes i = isIn i startPlaces || isIn i (map (λ j. endAt bytes + j) endPlaces)
 
--- The bits: status 1 keeps NO ECHO alone, and not in quality; status 2 and the mode bytes keep their mode alone
+-- The bits: status 1 keeps NO ECHO alone, and not in quality. Notice 49, 4(1)(1-1)(d)(イ)
 abbrev pub plainStatus : ℕ → ℕ → ℕ
 plainStatus p b = statusByte (noEchoOf b && not (eqb p 3))
 
+-- status 2 and the mode bytes keep their mode alone. Notice 49, 4(1)(1-1)(d)(イ)
 abbrev pub plainMode : ℕ → ℕ
 plainMode b = modeByte (modeOf b)
 
--- where an end block has its mode bytes
+-- where an end block has its mode bytes. Notice 49, 4(1)(1-1)(c)(ウ)
 abbrev pub modePlaces : List ℕ
 modePlaces = 3 ∷ 4 ∷ 5 ∷ 6 ∷ 7 ∷ 8 ∷ 9 ∷ 10 ∷ []
 
@@ -145,17 +146,18 @@ pub record Rewritten (bytes : List ℕ) (u : UndamagedPart bytes) : Type 0 where
       → (partBytes (rewrittenPart (u .part)) ≡ textOf (noEchoStart (u .part)) ++ textOf (noEchoEnd (u .part)))
       × (length (partBytes (rewrittenPart (u .part))) ≡ 80)
 
--- Complete is rewritten, of calls: one more call r after these was answered 3, complete, with part p. The bytes taken end with an undamaged
--- part, which is the one that complete tells; the header, modes and grid returned and left, handed to the writer with an output that has room,
--- are taken; and what is written is that part, but for what 01 names
-pub record Relayed (calls : List Call) (r : Request) (p : ℕ) : Type 0 where
+-- Complete is rewritten, of calls: one more call r after these was answered 3, complete. The bytes taken end with an undamaged part, whose
+-- number complete tells; that number with the header, modes and grid returned and left, handed to the writer with an output that has room,
+-- is taken; and what is written is that part, but for what 01 names
+pub record Relayed (calls : List Call) (r : Request) : Type 0 where
   pub before : List ℕ
   pub bytes : List ℕ
   pub split : received (calls ++ (onGrid r ∷ [])) .taken ≡ before ++ bytes
   pub whole : UndamagedPart bytes
-  pub number : p ≡ heldPart (whole .part)
+  pub tells : ask (received calls .state) (received calls .grid) r .reply ≡ partComplete (heldPart (whole .part))
   pub taken : (output : List ℕ) → length (partBytes (rewrittenPart (whole .part))) ≤ length output
-      → let here = received (calls ++ (onGrid r ∷ [])) in
+      → let p = heldPart (whole .part) in
+      let here = received (calls ++ (onGrid r ∷ [])) in
       let again = partBytes (rewrittenPart (whole .part)) in
       writes p (writerHeaderOf (here .state .header)) (here .state .modes) (take (payloadLength p) (here .grid)) output
       ≡ record { answer = bytesWritten (length again); count = length again; output = again ++ drop (length again) output }
@@ -163,6 +165,18 @@ pub record Relayed (calls : List Call) (r : Request) (p : ℕ) : Type 0 where
 
 -- The two halves, for all input; and the second of every list of calls, and each call of it that is answered complete
 pub record Demand2 : Type 0 where
+  -- What the writer takes reads back
   pub readsBack : (p : ℕ) (h : WriterHeader) (modes payload : List ℕ) → Accepted p h modes payload → ReadsBack p h modes payload
+  -- It writes nothing else: a call answered with a number of bytes kept rows 31 to 33, and the output had room
+  pub nothingElse : (p : ℕ) (h : WriterHeader) (modes payload output : List ℕ) → length (h .time) ≡ 12 → length (h .radars) ≡ 8 → length modes ≡ 8
+      → (n : ℕ) → writes p h modes payload output .answer ≡ bytesWritten n
+      → Accepted p h modes payload × (length (written p h modes payload) ≤ length output)
+  -- Any other call leaves the output as it was, with 0 written
+  pub leftAlone : (p : ℕ) (h : WriterHeader) (modes payload output : List ℕ) (n : ℕ) → writes p h modes payload output .answer ≡ refused n
+      → (writes p h modes payload output .count ≡ 0) × (writes p h modes payload output .output ≡ output)
+  -- Complete is rewritten
   pub rewritten : (bytes : List ℕ) (u : UndamagedPart bytes) → Rewritten bytes u
-  pub relayed : (calls : List Call) (r : Request) (p : ℕ) → ask (received calls .state) (received calls .grid) r .reply ≡ partComplete p → Relayed calls r p
+  -- by its bits: status 1 keeps bit 3, and none in quality; status 2 and the mode bytes keep bits 2, 4 and 6; all others are 0
+  pub statusBits : (p b k : ℕ) → k < 8 → bit (plainStatus p b) k ≡ (eqb k 3 && (bit b 3 && not (eqb p 3)))
+  pub modeBits : (b : ℕ) → b < 256 → hasMode b ≡ true → (k : ℕ) → k < 8 → bit (plainMode b) k ≡ (isIn k (2 ∷ 4 ∷ 6 ∷ []) && bit b k)
+  pub relayed : (calls : List Call) (r : Request) → number (ask (received calls .state) (received calls .grid) r .reply) ≡ 3 → Relayed calls r

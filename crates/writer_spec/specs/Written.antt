@@ -22,14 +22,15 @@ writesNoEcho p payload = not (eqb p 3) && every (λ b. eqb b 0) payload
 unfoldable pub statusByte : Bool → ℕ
 statusByte noEcho = cond noEcho 0x08 0x00
 
--- the time in ASCII, `YYYY.MM.DD.hh.mm`. Notice 49, 4(1)(1-1)(d)(イ)
+-- a digit's character. Notice 49, 4(1)(1-1)(d)(イ)
 abbrev pub char : ℕ → ℕ
 char digit = digit + 0x30
 
+-- the stop of the time. Notice 49, 4(1)(1-1)(c)(イ)
 abbrev pub stop : ℕ
 stop = 0x2E
 
--- The time in ASCII, `YYYY.MM.DD.hh.mm`. Notice 49, 4(1)(1-1)(d)(イ)
+-- The time in ASCII, `YYYY.MM.DD.hh.mm`. Notice 49, 4(1)(1-1)(c)(イ) and (d)(イ)
 unfoldable pub timeText : List ℕ → List ℕ
 timeText d =
     char (d ! 0) ∷ char (d ! 1) ∷ char (d ! 2) ∷ char (d ! 3) ∷ stop
@@ -38,7 +39,8 @@ timeText d =
     ∷ char (d ! 8) ∷ char (d ! 9) ∷ stop
     ∷ char (d ! 10) ∷ char (d ! 11) ∷ []
 
--- a block: `FD`, picture code, kind, and its bytes from byte 3 on. Notice 49, 4(1)(1-1)(d)(イ)
+-- a block: `FD`, picture code, kind, and its bytes from byte 3 on. Notice 49, 4(1)(1-1)(c)(イ) to (エ), (d)(イ) and (ウ),
+-- 4(1)(1-2)(c)(エ), (d)(イ) and (ウ), 4(2)(c)(エ), (d)(イ) and (ウ)
 abbrev pub blockOf : ℕ → ℕ → List ℕ → List ℕ
 blockOf q k contents = FD ∷ q ∷ k ∷ contents
 

@@ -3,10 +3,10 @@ use mathlib.Core.Path.{_≡_, sym, _∙_}
 use mathlib.Core.List.{List}
 use Prim.Native.Nat.{ℕ, _+_, _-_}
 use native.Mathlib.Omega.{arith}
-use lib.ListN.{length, take, drop, length-drop}
-use lib.Seq.{take-all}
+use lib.ListN.{length, take, drop}
 use borrow.Author.Needs.{needs}
 use borrow.Author.Tests.{not-true, not-false}
+use Rattle.general_laws.proofs.Lists.{rest-is}
 use Rattle.receiver_state.specs.declared.state.State.{State}
 use Rattle.receiver_stretches.specs.declared.stretch.StretchResult.{StretchResult}
 use Rattle.receiver_stretches.specs.Run.{run, afterStretch}
@@ -20,10 +20,6 @@ Inv-loop grid₀ bytes s₀ i₀ grid s i = RunsTo s₀ grid₀ i₀ s grid i by
 
 abbrev μ-loop : tie.MeasureT-loop
 μ-loop grid₀ bytes s₀ i₀ grid s i = length bytes - i
-
--- the slice from byte i on
-rest-is : (bytes : List ℕ) (i : ℕ) → take (length bytes - i) (drop i bytes) ≡ drop i bytes
-rest-is bytes i = take-all (length bytes - i) (drop i bytes) (omega (arith, length-drop i bytes))
 
 -- the stretch that the slice begins with, and one from byte j on
 first-run : (s : State) (g bytes : List ℕ) {r : StretchResult} {h : List ℕ} → length g ≡ 20000 → afterStretch r h ≡ run s g (take (stretch s g bytes) bytes) 0

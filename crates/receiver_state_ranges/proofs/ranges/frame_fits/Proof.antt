@@ -68,8 +68,8 @@ returns-4 : tie.Need-returns-4
 returns-4 c =
     no-kind _ (ne-eqb _ _ (c .before .before .if1 .left)) (sym (c .before .is-kind .ensures) ∙ not-true _ (c .if4 .taken))
 
-add-long : tie.Need-add-long
-add-long c = omega (arith, c .block-length .ensures, block-most (c .before .before .before .before .before .before .args .f .kind))
+add-placed : tie.Need-add-placed
+add-placed c = omega (arith, c .block-length .ensures, block-most (c .before .before .before .before .before .before .args .f .kind))
 
 returns-5 : tie.Need-returns-5
 returns-5 c =
@@ -110,7 +110,7 @@ frame-fits-spec =
     (λ c κs. search needs)
     returns-4
     (λ c κs. search needs)
-    add-long
+    add-placed
     (λ c κs. search needs)
     (λ c κs. search needs)
     returns-5

@@ -4,20 +4,16 @@ use mathlib.Core.List.{List}
 use Prim.Native.Nat.{ℕ, _+_, _-_, _≤_}
 use native.Mathlib.Omega.{arith}
 use lib.ListN.{length, take, drop, length-drop}
-use lib.Seq.{take-add, take-all}
+use lib.Seq.{take-add}
 use borrow.Author.Needs.{needs}
 use Rattle.receiver_state.specs.declared.state.State.{State}
 use Rattle.receiver_stretches.specs.declared.stretch.StretchResult.{StretchResult}
 use Rattle.receiver_stretches.specs.Run.{passed, run, Passes}
 use Rattle.receiver_stretches.proofs.Laws.{passed-count, passed-on, passed-after}
-use Rattle.general_laws.proofs.Lists.{taken-most}
+use Rattle.general_laws.proofs.Lists.{taken-most, rest-is}
 use Rattle.receiver_stretch_start_end.specs.Ahead.{waitLength, waitedFor, Waited, textAhead, edgeAhead}
 use Rattle.receiver_stretch_start_end.proofs.ahead.edge_ahead.Statement.{statement}
 use Rattle.receiver_stretch_start_end.proofs.ahead.edge_ahead.Tie as tie
-
--- the slice from the text on
-rest-is : (bytes : List ℕ) (i : ℕ) → take (length bytes - i) (drop i bytes) ≡ drop i bytes
-rest-is bytes i = take-all (length bytes - i) (drop i bytes) (omega (arith, length-drop i bytes))
 
 module _ (s : State) (bytes : List ℕ) {first second : StretchResult} (waited : Waited s (waitLength s bytes) bytes first) (rest : List ℕ) (e : rest ≡ drop (first .at) bytes)
     (text : Passes (first .state) (take (textAhead (first .state) rest) rest) second) where

@@ -1,0 +1,59 @@
+-- What the writer takes and what it refuses: written means accepted with room, and a refusal leaves the output. Assumes nothing.
+use mathlib.Core.Path.{_≡_, refl, ap}
+use mathlib.Core.Bool.{true, false, not}
+use mathlib.Core.List.{List}
+use Prim.Native.Nat.{ℕ, _≤_}
+use native.Mathlib.Omega.{arith}
+use lib.Dec.{ltb}
+use lib.ListN.{length}
+use borrow.Author.Tests.{ltb-false, not-false}
+use Rattle.text.specs.Kinds.{isPartNumber, partLength}
+use Rattle.text.specs.WriterInput.{isWriterInput}
+use Rattle.text.specs.declared.header.WriterHeader.{WriterHeader}
+use Rattle.general_laws.proofs.Tests.{by-if}
+use Rattle.writer_spec.specs.Written.{isPayload, writesNoEcho, WriteAnswer, bytesWritten, refused, WriteOutcome, writes}
+use Rattle.writer_spec.specs.Demand2.{Accepted, written}
+use Rattle.writer_spec.proofs.ReadsBack.{reads-back}
+
+-- an answer is a number of bytes or a refusal
+abbrev isRefusal : WriteAnswer → ℕ
+isRefusal (bytesWritten n) = 0
+isRefusal (refused n) = 1
+
+module _ (p : ℕ) (h : WriterHeader) (modes payload output : List ℕ) where
+  abbrev long : ℕ
+  long = partLength p (writesNoEcho p payload)
+
+  abbrev Kept : WriteOutcome → Type 0
+  Kept o = (n : ℕ) → o .answer ≡ bytesWritten n → Accepted p h modes payload × (length (written p h modes payload) ≤ length output)
+
+  refusal : {row n : ℕ} → refused row ≡ bytesWritten n → ⊥
+  refusal e = omega (arith, ap isRefusal e)
+
+  pub nothing-else : length (h .time) ≡ 12 → length (h .radars) ≡ 8 → length modes ≡ 8 → Kept (writes p h modes payload output)
+  unfolding writes
+  nothing-else digits radars places =
+      by-if Kept (not (isPartNumber p)) (λ _ n e. absurd (refusal e))
+      (λ part. by-if Kept (not (isWriterInput h modes)) (λ _ n e. absurd (refusal e))
+      (λ input. by-if Kept (not (isPayload p payload)) (λ _ n e. absurd (refusal e))
+      (λ allowed. by-if Kept (ltb (length output) long) (λ _ n e. absurd (refusal e))
+      (λ room n e. let accepted : Accepted p h modes payload = record {
+        part = not-false _ part;
+        input = not-false _ input;
+        allowed = not-false _ allowed;
+        digits = digits;
+        radars = radars;
+        places = places;
+      } in
+      (accepted, omega (arith, reads-back p h modes payload accepted .long, ltb-false (length output) long room))))))
+
+  abbrev Left : WriteOutcome → Type 0
+  Left o = (n : ℕ) → o .answer ≡ refused n → (o .count ≡ 0) × (o .output ≡ output)
+
+  pub left-alone : Left (writes p h modes payload output)
+  unfolding writes
+  left-alone =
+      by-if Left (not (isPartNumber p)) (λ _ n e. (refl, refl))
+      (λ _. by-if Left (not (isWriterInput h modes)) (λ _ n e. (refl, refl))
+      (λ _. by-if Left (not (isPayload p payload)) (λ _ n e. (refl, refl))
+      (λ _. by-if Left (ltb (length output) long) (λ _ n e. (refl, refl)) (λ _ n e. absurd (omega (arith, ap isRefusal e))))))
