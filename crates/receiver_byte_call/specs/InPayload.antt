@@ -9,8 +9,9 @@ use Rattle.receiver_state.specs.declared.state.Frame.{Frame}
 use Rattle.receiver_state.specs.declared.state.State.{State}
 use Rattle.receiver_decisions.specs.Decisions.{frame}
 
--- a data text of the open part is under way, the one that is due; it is inside its payload, five bytes are seen, and this byte keeps
--- the payload's rule. Notice 49, 4(1)(1-1)(c)(エ) and (d)(ウ), 4(1)(1-2)(c)(エ) and (d)(ウ), 4(2)(c)(エ) and (d)(ウ)
+-- a data text of the open part is under way, the one that is due; it is inside its payload, five bytes are seen, and
+-- this byte keeps the payload's rule. Notice 49, 4(1)(1-1)(c)(エ) and (d)(ウ), 4(1)(1-2)(c)(エ) and (d)(ウ), 4(2)(c)(エ)
+-- and (d)(ウ)
 unfoldable pub isPayloadHere : Frame → ℕ → Bool
 isPayloadHere f b =
     leb 3 (f .place)

@@ -89,7 +89,7 @@ elsewhere-on calls s g taken said made ih r grid n result exit e =
     }
   where
     each : (ask (received calls .state) grid r ≡ record { reply = refused 1; count = 0; state = received calls .state; grid = grid })
-        × (received (calls ++ (elsewhere r grid n ∷ [])) ≡ received calls)
+        × (number (ask (received calls .state) grid r .reply) ≡ 1) × (received (calls ++ (elsewhere r grid n ∷ [])) ≡ received calls)
     each = demand-3 (calls ++ (elsewhere r grid n ∷ [])) .each calls (elsewhere r grid n) [] refl
 
     outcome : returned result exit ≡ ask (received calls .state) grid r
@@ -102,7 +102,7 @@ elsewhere-on calls s g taken said made ih r grid n result exit e =
     none = ap (λ (o : CallOutcome). o .count) (outcome ∙ left)
 
     here : received (calls ++ (elsewhere r grid n ∷ [])) ≡ received calls
-    here = each .1
+    here = each .2
 
 comes : {calls : List Call} {s : State} {g taken said : List ℕ} {made : List CallOutcome} → Called calls s g taken said made → Comes calls s g taken said made
 unfolding start after seenAfter outcomesFrom

@@ -1,5 +1,5 @@
--- What a caller's list of calls of the code is, in terms of the contracts of fresh, byte_call and slice_call alone, and what it comes to.
--- src/ shows by three calls that these are the contracts. Assumes nothing.
+-- What a caller's list of calls of the code is, in terms of the contracts of fresh, byte_call and slice_call alone,
+-- and what it comes to. src/ shows by three calls that these are the contracts. Assumes nothing.
 use mathlib.Core.Path.{_≡_}
 use mathlib.Core.Logic.{_≢_}
 use mathlib.Core.List.{List, [], _∷_, _++_}
@@ -24,9 +24,10 @@ abbrev pub Ensured : Request → State → List ℕ → CallResult → List ℕ 
 Ensured (byte b) s g r exit = (returned r exit ≡ byteCall (stateOf s) g b) × (r .state .seen ≡ seenAfter (s .seen) (take (r .count) (b ∷ [])))
 Ensured (slice bytes) s g r exit = (returned r exit ≡ sliceCall (stateOf s) g bytes) × (r .state .seen ≡ seenAfter (s .seen) (take (r .count) bytes))
 
--- A caller's list of calls: the state and the grid that the next call gets, the bytes taken in order and the answer of each, and what each
--- call returned and left. The first call gets the fresh state and zeros, each other the state that the last one returned and the grid that
--- it left; a call lent a grid of another length leaves the list's grid alone
+-- A caller's list of calls: the state and the grid that the next call gets, the bytes taken in order and the answer
+-- of each, and what each call returned and left. The first call gets the fresh state and zeros, each other the state
+-- that the last one returned and the grid that it left; a call lent a grid of another length leaves the list's grid
+-- alone
 pub data Called : List Call → State → List ℕ → List ℕ → List ℕ → List CallOutcome → Type 0 where
   begin : (s : State) → EnsuredFresh s → Called [] s emptyGrid [] [] []
   more : {calls : List Call} {s : State} {g taken said : List ℕ} {made : List CallOutcome} → Called calls s g taken said made
@@ -47,14 +48,15 @@ unfoldable pub outcomesFrom : After → List Call → List CallOutcome
 outcomesFrom a [] = []
 outcomesFrom a (c ∷ calls) = outcomeAt a c ∷ outcomesFrom (next a c) calls
 
--- After a start text's last byte: the code's state, in every field, and the grid are settled by the bytes from that text's first on
+-- After a start text's last byte: the code's state, in every field, and the grid are settled by the bytes from that
+-- text's first on
 pub record CodeWayBack (s : State) (g text rest : List ℕ) : Type 0 where
   pub state : stateOf s ≡ singly (text ++ rest) .state
   pub seen : s .seen ≡ seenAfter 0 (text ++ rest)
   pub grid : g ≡ singly (text ++ rest) .grid
 
--- Demand 3 of a caller's list of calls: each call returned and left what the definition's does, the list comes to what the definition's
--- comes to, the number that holds the bytes seen with it, and demand 3 holds of it
+-- Demand 3 of a caller's list of calls: each call returned and left what the definition's does, the list comes to
+-- what the definition's comes to, the number that holds the bytes seen with it, and demand 3 holds of it
 pub record CodeDemand3 (calls : List Call) (s : State) (g taken said : List ℕ) (made : List CallOutcome) : Type 0 where
   pub outcomes : made ≡ outcomesFrom start calls
   pub state : stateOf s ≡ received calls .state

@@ -1,5 +1,6 @@
--- What a byte of a text whose kind has been read does, in the code's terms. Each definition here is one of `receiver_spec`'s Receiver,
--- row for row; proofs/Laws shows that they are the same (text-same). State s has the byte among its bytes seen already. Assumes nothing.
+-- What a byte of a text whose kind has been read does, in the code's terms. Each definition here is one of
+-- `receiver_spec`'s Receiver, row for row; proofs/Laws shows that they are the same (text-same). State s has the byte
+-- among its bytes seen already. Assumes nothing.
 use Prim.Native.Nat.{ℕ, _+_}
 use mathlib.Core.Bool.{cond, not}
 use lib.Dec.{eqb, ltb}

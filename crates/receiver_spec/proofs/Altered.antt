@@ -106,7 +106,7 @@ module _ (R : Rules) (L : RuleLaws R) where
   other a h e = T-not (eqb a 3) h (subst T (sym (eq-eqb a 3 e)) tt)
 
   -- with no part open, bytes that open nothing are free
-  idle-move : (w : List ℕ) (b : ℕ) (c : Held) → endsOpening w b ≡ false → move R (mk R w 0 0 0 0 0 0 c) b ≡ answering R 0 (mk R (push w b) 0 0 0 0 0 0 c)
+  pub idle-move : (w : List ℕ) (b : ℕ) (c : Held) → endsOpening w b ≡ false → move R (mk R w 0 0 0 0 0 0 c) b ≡ answering R 0 (mk R (push w b) 0 0 0 0 0 0 c)
   unfolding move placed inGap
   idle-move w b c e = rw e
 

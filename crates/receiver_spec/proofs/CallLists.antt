@@ -75,7 +75,7 @@ last-part bytes s g b (suc n) r h e =
     subst (λ m. r ≡ answered (stateAfter s g (take m (b ∷ bytes)) .part) (number r)) later
     (subst (λ m. r ≡ answered (stateAfter (step s g b .state) (step s g b .grid) (take m bytes) .part) (number r)) here e)
 
-feed-taken : (bytes : List ℕ) (s : State) (g : List ℕ) → SliceTaken s g bytes (feed s g bytes)
+pub feed-taken : (bytes : List ℕ) (s : State) (g : List ℕ) → SliceTaken s g bytes (feed s g bytes)
 unfolding feed answersOf stateAfter gridAfter
 feed-taken [] s g =
     record {

@@ -21,7 +21,7 @@ use Rattle.receiver_spec.specs.Receiver.{_⊕_, BEGUN, TAKEN}
 use Rattle.receiver_spec.proofs.Machine.{Rules, Machine, Out, mk, answering, lost, new, opens, inGap, atPicture, begins, atKind, inBlock, atEor, atCheck, atLast, placed, move, run, BlockContents, contents-end, contents-byte, block, most, text, Open, begun, more, Whole, whole}
 use Rattle.receiver_spec.proofs.Opening.{opening-seen, control-opens, seenControl}
 use Rattle.receiver_spec.proofs.Steps.{RuleLaws, xor-snoc, xor-nil, check-is, run-append, move-seen, move-block, move-eor, move-check, move-last}
-use Rattle.receiver_spec.proofs.WayBack.{running}
+use Rattle.receiver_spec.proofs.WayBack.{running, seenCheck}
 use Rattle.receiver_spec.proofs.Completing.{due-control, open-some, whole-run}
 
 -- the bytes behind an open part's last text, and the bytes seen: some of an opening, and the TPAD before it
@@ -385,12 +385,14 @@ module _ (R : Rules) (L : RuleLaws R) where
       good-move (run R (new R) h) b k v .full e
 
   -- and always then
-  pub complete-if : (h : List ℕ) (b : ℕ) (c : Held) → Ends (h ++ (b ∷ [])) c → (move R (run R (new R) h) b .answer ≡ 3) × (move R (run R (new R) h) b .machine .held ≡ c)
+  pub complete-if : (h : List ℕ) (b : ℕ) (c : Held) → Ends (h ++ (b ∷ [])) c
+      → (move R (run R (new R) h) b .answer ≡ 3) × (w : List ℕ) × (move R (run R (new R) h) b .machine ≡ mk R w 0 0 0 0 0 0 c)
   complete-if h b c (z, ys, e, p) = go p e
     where
-      go : {ys : List ℕ} {c : Held} → Whole R ys c → h ++ (b ∷ []) ≡ z ++ ys → (move R (run R (new R) h) b .answer ≡ 3) × (move R (run R (new R) h) b .machine .held ≡ c)
+      go : {ys : List ℕ} {c : Held} → Whole R ys c → h ++ (b ∷ []) ≡ z ++ ys
+          → (move R (run R (new R) h) b .answer ≡ 3) × (w : List ℕ) × (move R (run R (new R) h) b .machine ≡ mk R w 0 0 0 0 0 0 c)
       go (whole {ys = us} {k} {xs} {c = d} o hq hk g n v l r cl) e =
           let t = most R (block R (pictureOf d) k xs) in
           let (i, j) = snoc-inj h (z ++ (us ++ t)) b TPAD (e ∙ simp append-assoc) in
           let q = ap₂ (λ s x. move R (run R (new R) s) x) i j ∙ ap (λ s. move R s TPAD) (run-append R (new R) z (us ++ t)) ∙ whole-run R L o hq hk g n v l r cl (run R (new R) z) in
-          (ap (λ o. o .answer) q, ap (λ o. o .machine .held) q)
+          (ap (λ o. o .answer) q, push (seenCheck R L (pictureOf d) k xs) TPAD, ap (λ o. o .machine) q)

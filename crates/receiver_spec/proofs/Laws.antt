@@ -1,7 +1,7 @@
 -- What other crates may rest on: the laws of the receiver's definition. Everything else in proofs/ is this crate's own affair.
 
 -- Demand 3; and complete comes at a part's last byte and not before
-pub use Rattle.receiver_spec.proofs.Theorem.{demand-3, answers-long, after-last}
+pub use Rattle.receiver_spec.proofs.Theorem.{demand-3, held-then, answers-long, after-last}
 pub use Rattle.receiver_spec.proofs.NotBefore.{not-before}
 -- Lists of calls are runs of steps, and calls on a sound state and grid (the fresh ones, and whatever steps lead to) are not refused
 pub use Rattle.receiver_spec.proofs.CallLists.{PossibleOnGrid, fresh-sound, steps-sound, not-refused, slice-taken, slice-count-most, calls-stepped, singly-taken, spread-last, answers-append, state-append, grid-append}

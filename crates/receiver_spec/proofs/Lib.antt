@@ -18,7 +18,7 @@ pub mod Answers
 pub mod CallLists
 -- demand 3
 pub mod Theorem
--- complete comes at a part's last byte and not before; rows 11 and 15 exactly when; sample traffic
+-- complete comes at a part's last byte and not before; rows 1, 2, 11 and 15 exactly when; sample traffic
 pub mod NotBefore
 pub mod Rows
 pub mod Samples

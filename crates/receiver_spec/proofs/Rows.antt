@@ -1,4 +1,5 @@
--- Rows 11 and 15 of 01's table hold both ways: a byte is answered so exactly when the row's condition holds. Assumes nothing.
+-- Rows 1, 2, 11 and 15 of 01's table hold both ways: a call is refused, or a byte answered so, exactly when the row's condition holds.
+-- Assumes nothing.
 use mathlib.Core.Path.{_≡_, refl, subst}
 use mathlib.Core.Logic.{_≢_, _↔_}
 use mathlib.Core.Bool.{Bool, true, false, not, _||_}
@@ -6,7 +7,8 @@ use mathlib.Core.List.{List, [], _∷_}
 use Prim.Native.Nat.{ℕ, suc}
 use native.Mathlib.Omega.{arith}
 use lib.Dec.{eqb, ltb}
-use borrow.Author.Tests.{eqb-true}
+use lib.ListN.{length}
+use borrow.Author.Tests.{eqb-true, eq-eqb, ne-eqb}
 use Rattle.general_laws.specs.Bytes.{isIn}
 use Rattle.text.specs.Text.{EOR, TPAD}
 use Rattle.text.specs.Pictures.{isPictureCode}
@@ -14,9 +16,13 @@ use Rattle.text.specs.Kinds.{isKind, isStartKind, isEndKind, kindOf, blockLengt
 use Rattle.general_laws.proofs.Tests.{never, by-if}
 use Rattle.text_laws.proofs.KindTable.{start-is-kind}
 use Rattle.receiver_spec.specs.Seen.{push, endsOpening, dueByte}
-use Rattle.receiver_spec.specs.State.{State}
+use Rattle.receiver_spec.specs.State.{State, isPossible}
 use Rattle.receiver_spec.specs.Contents.{takesByte}
 use Rattle.receiver_spec.specs.Receiver.{Step, opened, gapByte, pictureByte, kindByte, blockByte, eorByte, checkedByte, modeIsHighest, lastByte, placedByte, step}
+use Rattle.receiver_spec.specs.Calls.{refused, byteCall, feed, sliceCall, Request, byte, slice, ask}
+use Rattle.receiver_spec.specs.Demand3.{IsAnswer}
+use Rattle.receiver_spec.proofs.Answers.{step-told}
+use Rattle.receiver_spec.proofs.CallLists.{feed-taken}
 
 -- every answer but 11 and 15
 abbrev others : List ℕ
@@ -143,3 +149,21 @@ row-15 s g b = (
   where
     Only : Step → Type 0
     Only o = o .answer ≡ 15 → (endsOpening (s .seen) b ≡ false) × ((s .place ≡ 2) × Fifteen s b)
+
+-- Row 1: the grid is not 20,000 bytes. Row 2: it is, and the state is not possible. All unchanged, 0 taken
+pub row-1 : (s : State) (g : List ℕ) (r : Request) → length g ≢ 20000 → ask s g r ≡ record { reply = refused 1; count = 0; state = s; grid = g }
+unfolding ask byteCall sliceCall
+row-1 s g (byte b) n = rw (ne-eqb (length g) 20000 n)
+row-1 s g (slice bytes) n = rw (ne-eqb (length g) 20000 n)
+
+pub row-2 : (s : State) (g : List ℕ) (r : Request) → length g ≡ 20000 → isPossible s ≡ false
+    → ask s g r ≡ record { reply = refused 2; count = 0; state = s; grid = g }
+unfolding ask byteCall sliceCall
+row-2 s g (byte b) l p = rw (eq-eqb (length g) 20000 l, p)
+row-2 s g (slice bytes) l p = rw (eq-eqb (length g) 20000 l, p)
+
+-- and no other call is refused
+pub row-neither : (s : State) (g : List ℕ) (r : Request) → length g ≡ 20000 → isPossible s ≡ true → IsAnswer (ask s g r .reply)
+unfolding ask byteCall sliceCall
+row-neither s g (byte b) l p = rw (eq-eqb (length g) 20000 l, p) (step-told (s .part) s g b)
+row-neither s g (slice bytes) l p = rw (eq-eqb (length g) 20000 l, p) (feed-taken bytes s g .isAnswer)

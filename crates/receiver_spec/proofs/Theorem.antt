@@ -1,33 +1,35 @@
 -- Demand 3, for every list of receiving calls. Assumes nothing.
 use mathlib.Core.Path.{_≡_, refl, sym, ap, ap₂, _∙_, subst}
 use mathlib.Core.Logic.{_≢_, _↔_}
-use mathlib.Core.Bool.{true}
+use mathlib.Core.Bool.{true, false}
 use mathlib.Core.List.{List, [], _∷_, _++_, append-assoc, append-nil, map}
 use Prim.Native.Nat.{ℕ, zero, suc, _+_, _-_, _≤_}
 use native.Mathlib.Omega.{arith}
 use lib.ListN.{length, getD, take, drop, length-append, length-drop, List·getD-eq-default}
-use lib.Dec.{ltb}
+use lib.Dec.{eqb, ltb}
 use lib.Seq.{drop-at, split-at, take-suc, length-take-le}
-use borrow.Author.Tests.{ltb-true, ltb-false}
-use Rattle.general_laws.specs.Bytes.{_!_}
+use borrow.Author.Tests.{eqb-false, ltb-true, ltb-false}
+use Rattle.general_laws.specs.Bytes.{_!_, isIn}
 use Rattle.text.specs.Text.{FD, TPAD, textOf}
 use Rattle.text.specs.Kinds.{partOf}
 use Rattle.text.specs.StartBlock.{isStartBlock, headerOf}
-use Rattle.text.specs.Part.{startPart, StartText, UndamagedPart, AlteredTo, partHeader, partModes, gridOf}
+use Rattle.text.specs.Part.{startPart, StartText, UndamagedPart, AlteredTo, zeros, partHeader, partModes, gridOf}
 use Rattle.text.specs.EndBlock.{noModes}
-use Rattle.general_laws.proofs.Tests.{by-test}
+use Rattle.general_laws.proofs.Tests.{by-test, neither}
 use Rattle.text_laws.proofs.Parts.{start-byte}
 use Rattle.text_laws.proofs.Blocks.{StartRules, start-rules, split-3}
+use Rattle.receiver_spec.specs.Seen.{push}
 use Rattle.receiver_spec.specs.State.{State, fresh, emptyGrid}
 use Rattle.receiver_spec.specs.Receiver.{Step, step}
 use Rattle.receiver_spec.specs.Calls.{Reply, quiet, partBegun, textTaken, partComplete, partDropped, refused, number, answered, CallOutcome, Request, byte, slice, Call, onGrid, elsewhere, ask, After, start, add, next, after, received, singly, answersOf, stateAfter, gridAfter}
 use Rattle.receiver_spec.specs.Demand3.{IsAnswer, CallMade, EndsUndamaged, WayBack, Demand3}
-use Rattle.receiver_spec.proofs.Machine.{Machine, Out, move, run, new, block, most, text, Whole, whole}
+use Rattle.receiver_spec.proofs.Opening.{only-FD}
+use Rattle.receiver_spec.proofs.Machine.{Machine, Out, mk, move, run, new, block, most, text, Whole, whole}
 use Rattle.receiver_spec.proofs.Steps.{run-append}
-use Rattle.receiver_spec.proofs.WayBack.{way-back}
+use Rattle.receiver_spec.proofs.WayBack.{start-run, way-back}
 use Rattle.receiver_spec.proofs.Completing.{part-open}
 use Rattle.receiver_spec.proofs.History.{snoc-inj, complete-only, complete-if}
-use Rattle.receiver_spec.proofs.Altered.{altered-never}
+use Rattle.receiver_spec.proofs.Altered.{idle-move, altered-never}
 use Rattle.receiver_spec.proofs.Instance.{Held, held, radar, machine, out, step-is-move, radar-laws}
 use Rattle.text_laws.proofs.KindTable.{start-block-length}
 use Rattle.receiver_spec.proofs.BlockRules.{start-taken}
@@ -120,7 +122,16 @@ module _ (t : List ℕ) (u : StartText t) where
   unfolding front
   text-is = u .framed ∙ ap textOf split ∙ sym (text-same (block radar q k xs))
 
-  -- from its last byte on it makes no difference what came before
+  -- it is answered 1 at its last byte
+  begins : (m : Machine radar) → move radar (run radar m front) TPAD .answer ≡ 1
+  unfolding front
+  begins m =
+      let long : length xs ≡ 29 = omega (arith, length-drop 3 b, rules .long) in
+      let contents = start-taken q k (radar .blank) (held (headerOf (block radar q k xs)) noModes emptyGrid) xs (rules .picture) (rules .kind) long .1 (subst (λ y. isStartBlock y ≡ true) split (u .rules), refl) in
+      ap (λ (o : Out radar). o .answer)
+      (start-run radar radar-laws (rules .picture) (rules .kind) (omega (arith, long, start-block-length k (rules .kind))) contents m)
+
+  -- from there on it makes no difference what came before
   same-move : (m n : Machine radar) → move radar (run radar m front) TPAD ≡ move radar (run radar n front) TPAD
   unfolding front
   same-move m n =
@@ -148,6 +159,10 @@ module _ (t : List ℕ) (u : StartText t) where
       record {
         state = x .state ∙ ap (stateAfter fresh emptyGrid) e ∙ state-is _ _ _ _ machines ∙ ap (stateAfter fresh emptyGrid) (sym taken) ∙ sym (y .state);
         grid = x .grid ∙ ap (gridAfter fresh emptyGrid) e ∙ grid-is _ _ _ _ machines ∙ ap (gridAfter fresh emptyGrid) (sym taken) ∙ sym (y .grid);
+        begun =
+            ap₂ (λ (y : List ℕ) i. y ! i) (x .said ∙ ap (answersOf fresh emptyGrid) (e ∙ parts before)) (omega (arith, length-append before front, long))
+            ∙ answer-at (before ++ front) TPAD rest fresh emptyGrid
+            ∙ ap (λ m. move radar m TPAD .answer) (run-append radar (machine fresh emptyGrid) before front) ∙ begins (run radar (machine fresh emptyGrid) before);
         answers = ap (drop (length before + (length t - 1))) (x .said ∙ ap (answersOf fresh emptyGrid) e) ∙ ends ∙ ap (drop (length t - 1)) (ap (answersOf fresh emptyGrid) (sym taken) ∙ sym (y .said));
       }
     where
@@ -198,6 +213,15 @@ last-byte : {zs : List ℕ} {c : Held} → Whole radar zs c → (h : List ℕ) �
 last-byte (whole {ys} {k} {xs} {c} o hq hk g n v l r z) =
     (ys ++ most radar (block radar (c .header .picture) k xs), sym (append-assoc ys (most radar (block radar (c .header .picture) k xs)) (TPAD ∷ [])))
 
+-- with no part open, bytes without `FD` leave what is held
+idle-run : (rest w : List ℕ) (c : Held) → isIn FD rest ≡ false → run radar (mk radar w 0 0 0 0 0 0 c) rest .held ≡ c
+unfolding run isIn
+idle-run [] w c h = refl
+idle-run (b ∷ rest) w c h =
+    let (other, free) = neither (eqb FD b) (isIn FD rest) h in
+    ap (λ (o : Out radar). run radar (o .machine) rest .held) (idle-move radar radar-laws w b c (only-FD w b (λ e. eqb-false FD b other (sym e))))
+    ∙ idle-run rest (push w b) c free
+
 module _ (calls : List Call) where
   stepped : Stepped calls
   stepped = calls-stepped calls
@@ -215,17 +239,20 @@ module _ (calls : List Call) where
     λ u. said-at before b rest e ∙ complete-if radar radar-laws before b (heldOf (u .whole .part)) (u .before, u .part, u .split, undamaged-whole (u .whole)) .0,
   )
 
-  holds : (before part : List ℕ) (u : UndamagedPart part) → received calls .taken ≡ before ++ part
+  holds : (before part rest : List ℕ) (u : UndamagedPart part) → isIn FD rest ≡ false → received calls .taken ≡ before ++ (part ++ rest)
       → (received calls .state .header ≡ partHeader (u .part)) × (received calls .state .modes ≡ partModes (u .part)) × (received calls .grid ≡ gridOf (u .part))
   unfolding run
-  holds before part u e =
+  holds before part rest u free e =
       let w = undamaged-whole u in
       let (h, f) = last-byte w in
       let split : before ++ part ≡ (before ++ h) ++ (TPAD ∷ []) = ap (λ t. before ++ t) f ∙ sym (append-assoc before h (TPAD ∷ [])) in
-      let end = complete-if radar radar-laws (before ++ h) TPAD (heldOf (u .part)) (before, part, sym split, w) .1 in
-      let here : machine (received calls .state) (received calls .grid) ≡ move radar (run radar (new radar) (before ++ h)) TPAD .machine =
-      ap₂ machine (stepped .state) (stepped .grid) ∙ machine-after (received calls .taken) fresh emptyGrid ∙ ap (run radar (new radar)) (e ∙ split) ∙ run-append radar (new radar) (before ++ h) (TPAD ∷ []) in
-      let all : held (received calls .state .header) (received calls .state .modes) (received calls .grid) ≡ heldOf (u .part) = ap (λ (m : Machine radar). m .held) here ∙ end in
+      let (_, seen, end) = complete-if radar radar-laws (before ++ h) TPAD (heldOf (u .part)) (before, part, sym split, w) in
+      let bytes : received calls .taken ≡ (before ++ h) ++ (TPAD ∷ rest) =
+      e ∙ sym (append-assoc before part rest) ∙ ap (λ t. t ++ rest) split ∙ append-assoc (before ++ h) (TPAD ∷ []) rest in
+      let here : machine (received calls .state) (received calls .grid) ≡ run radar (move radar (run radar (new radar) (before ++ h)) TPAD .machine) rest =
+      ap₂ machine (stepped .state) (stepped .grid) ∙ machine-after (received calls .taken) fresh emptyGrid ∙ ap (run radar (new radar)) bytes ∙ run-append radar (new radar) (before ++ h) (TPAD ∷ rest) in
+      let all : held (received calls .state .header) (received calls .state .modes) (received calls .grid) ≡ heldOf (u .part) =
+      ap (λ (m : Machine radar). m .held) (here ∙ ap (λ m. run radar m rest) end) ∙ idle-run rest seen (heldOf (u .part)) free in
       (ap (λ (c : Held). c .header) all, ap (λ (c : Held). c .modes) all, ap (λ (c : Held). c .grid) all)
 
   never-complete : (part : List ℕ) (v : ℕ) → UndamagedPart part → v ≢ FD → AlteredTo v part (received calls .taken) → (i : ℕ) → received calls .said ! i ≢ 3
@@ -262,6 +289,7 @@ made calls (elsewhere r grid other) =
     let a = received calls in
     let e = wrong-grid (a .state) grid r other in (
       e,
+      ap (λ (outcome : CallOutcome). number (outcome .reply)) e,
       ap (λ (outcome : CallOutcome). add a r (record { reply = outcome .reply; count = outcome .count; state = a .state; grid = a .grid })) e
           ∙ (λ i. record { state = a .state; grid = a .grid; taken = append-nil (a .taken) i; said = append-nil (a .said) i }),
     )
@@ -342,7 +370,7 @@ complete-told calls r three before part u e =
 
 -- The theorem
 pub demand-3 : (calls : List Call) → Demand3 calls
-unfolding start after
+unfolding start after zeros
 demand-3 calls =
     record {
       begin = refl;
@@ -353,3 +381,10 @@ demand-3 calls =
       completeTells = λ earlier r later e. complete-told earlier r;
       altered = never-complete calls;
     }
+
+-- in particular, where nothing has come behind an undamaged part
+pub held-then : (calls : List Call) (before part : List ℕ) (u : UndamagedPart part) → received calls .taken ≡ before ++ part
+    → (received calls .state .header ≡ partHeader (u .part)) × (received calls .state .modes ≡ partModes (u .part)) × (received calls .grid ≡ gridOf (u .part))
+unfolding isIn
+held-then calls before part u e =
+    demand-3 calls .held calls [] (sym (append-nil calls)) before part [] u refl (e ∙ ap (λ t. before ++ t) (sym (append-nil part)))

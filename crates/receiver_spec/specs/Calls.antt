@@ -9,8 +9,9 @@ use Rattle.text.specs.Part.{gridLength}
 use Rattle.receiver_spec.specs.State.{State, fresh, emptyGrid, isPossible}
 use Rattle.receiver_spec.specs.Receiver.{step}
 
--- What a call returns. An answer: 0 quiet; 1 part begun; 2 data text taken; 3 complete, with the part's number (1 intensity, 2 echo top,
--- 3 quality); 11 to 22, the row that dropped. Or a refusal, 1 or 2, which is thereby told apart from answers 1 and 2
+-- What a call returns. An answer: 0 quiet; 1 part begun; 2 data text taken; 3 complete, with the part's number (1
+-- intensity, 2 echo top, 3 quality); 11 to 22, the row that dropped. Or a refusal, 1 or 2, which is thereby told
+-- apart from answers 1 and 2
 pub data Reply : Type 0 where
   quiet : Reply
   partBegun : Reply
@@ -28,7 +29,8 @@ number (partComplete part) = 3
 number (partDropped n) = n
 number (refused n) = n
 
--- the reply that has an answer's number; the part is the one that was open before the byte, for at answer 3 none is open from there
+-- the reply that has an answer's number; the part is the one that was open before the byte, for at answer 3 none is
+-- open from there
 unfoldable pub answered : ℕ → ℕ → Reply
 answered part n =
     cond (eqb n 0) quiet (cond (eqb n 1) partBegun (cond (eqb n 2) textTaken (cond (eqb n 3) (partComplete part) (partDropped n))))

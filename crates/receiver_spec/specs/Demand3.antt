@@ -2,12 +2,13 @@
 use mathlib.Core.Path.{_≡_}
 use mathlib.Core.Logic.{_≢_, _↔_}
 use Prim.Native.Nat.{ℕ, _+_, _-_, _≤_}
+use mathlib.Core.Bool.{false}
 use mathlib.Core.List.{List, [], _∷_, _++_}
 use lib.ListN.{length, take, drop}
-use Rattle.general_laws.specs.Bytes.{_!_}
+use Rattle.general_laws.specs.Bytes.{_!_, isIn}
 use Rattle.text.specs.Text.{FD}
-use Rattle.text.specs.Part.{startPart, StartText, UndamagedPart, AlteredTo, partHeader, partModes, gridOf}
-use Rattle.receiver_spec.specs.State.{State, fresh, emptyGrid}
+use Rattle.text.specs.Part.{startPart, StartText, UndamagedPart, AlteredTo, zeros, partHeader, partModes, gridOf}
+use Rattle.receiver_spec.specs.State.{State}
 use Rattle.receiver_spec.specs.Receiver.{step}
 use Rattle.receiver_spec.specs.Calls.{Reply, quiet, partBegun, textTaken, partComplete, partDropped, refused, number, answered, CallOutcome, Request, byte, slice, Call, onGrid, elsewhere, ask, spread, After, received, singly, answersOf, stateAfter, gridAfter}
 
@@ -19,9 +20,9 @@ pub data IsAnswer : Reply → Type 0 where
   saysComplete : (part : ℕ) → IsAnswer (partComplete part)
   saysDropped : (row : ℕ) → 11 ≤ row → row ≤ 22 → IsAnswer (partDropped row)
 
--- A slice call takes bytes up to and with the first that is answered other than 0: the last byte taken has the call's answer,
--- those before it 0, and all bytes are taken where the answer is 0. State and grid are those after the bytes taken.
--- No answer without a byte: a call that takes none is answered 0, and only of an empty slice is none taken
+-- A slice call takes bytes up to and with the first that is answered other than 0: the last byte taken has the call's
+-- answer, those before it 0, and all bytes are taken where the answer is 0. State and grid are those after the bytes
+-- taken. No answer without a byte: a call that takes none is answered 0, and only of an empty slice is none taken
 pub record SliceTaken (s : State) (g bytes : List ℕ) (outcome : CallOutcome) : Type 0 where
   pub isAnswer : IsAnswer (outcome .reply)
   pub answer : outcome .reply ≡ answered (stateAfter s g (take (outcome .count - 1) bytes) .part) (number (outcome .reply))
@@ -46,7 +47,8 @@ CallMade a (onGrid (slice bytes)) z =
     let outcome = ask (a .state) (a .grid) (slice bytes) in
     SliceTaken (a .state) (a .grid) bytes outcome
     × (z ≡ record { state = outcome .state; grid = outcome .grid; taken = a .taken ++ take (outcome .count) bytes; said = a .said ++ spread (outcome .count) (number (outcome .reply)) })
-CallMade a (elsewhere r grid other) z = (ask (a .state) grid r ≡ record { reply = refused 1; count = 0; state = a .state; grid = grid }) × (z ≡ a)
+CallMade a (elsewhere r grid other) z =
+    (ask (a .state) grid r ≡ record { reply = refused 1; count = 0; state = a .state; grid = grid }) × (number (ask (a .state) grid r .reply) ≡ 1) × (z ≡ a)
 
 -- bytes that end with an undamaged part
 pub record EndsUndamaged (bytes : List ℕ) : Type 0 where
@@ -55,17 +57,34 @@ pub record EndsUndamaged (bytes : List ℕ) : Type 0 where
   pub split : bytes ≡ before ++ part
   pub whole : UndamagedPart part
 
--- After calls that took these bytes, an undamaged start text among them: state and grid, and the answers from that text's last
--- byte on, are those of a fresh receiver that was given, one by one, all bytes taken from that text's first on
+-- After calls that took these bytes, an undamaged start text among them: state and grid, and the answers from that
+-- text's last byte on, are those of a fresh receiver that was given, one by one, all bytes taken from that text's
+-- first on; that last byte is answered 1
 pub record WayBack (here : After) (before text rest : List ℕ) : Type 0 where
   pub state : here .state ≡ singly (text ++ rest) .state
   pub grid : here .grid ≡ singly (text ++ rest) .grid
+  pub begun : here .said ! (length before + (length text - 1)) ≡ 1
   pub answers : drop (length before + (length text - 1)) (here .said) ≡ drop (length text - 1) (singly (text ++ rest) .said)
+
+-- the fresh state, written out
+abbrev pub allZero : State
+allZero =
+    record {
+      seen = [];
+      place = 0;
+      kind = 0;
+      picture = 0;
+      part = 0;
+      due = 0;
+      check = 0;
+      header = record { time = zeros 12; radars = zeros 8; clock = 0; picture = 0; mode = 0; noecho = false };
+      modes = zeros 8;
+    }
 
 -- What every list of calls comes to
 pub record Demand3 (calls : List Call) : Type 0 where
-  -- Before the first call: fresh, and nothing taken
-  pub begin : received [] ≡ record { state = fresh; grid = emptyGrid; taken = []; said = [] }
+  -- Before the first call: nothing seen, place 0, no part, all else 0, the grid's 20,000 bytes 0, and nothing taken
+  pub begin : received [] ≡ record { state = allZero; grid = zeros 20000; taken = []; said = [] }
   -- Each call of the list, from what those before it came to to what they come to with it
   pub each : (earlier : List Call) (call : Call) (later : List Call) → calls ≡ earlier ++ (call ∷ later)
       → CallMade (received earlier) call (received (earlier ++ (call ∷ [])))
@@ -75,9 +94,10 @@ pub record Demand3 (calls : List Call) : Type 0 where
   -- A byte is answered 3, complete, exactly when the bytes up to it end with an undamaged part
   pub complete : (before : List ℕ) (b : ℕ) (rest : List ℕ) → received calls .taken ≡ before ++ (b ∷ rest)
       → (received calls .said ! length before ≡ 3) ↔ EndsUndamaged (before ++ (b ∷ []))
-  -- After the call that took its last byte, and as long as no further byte is taken, header, modes and grid are that part's
-  pub held : (earlier later : List Call) → calls ≡ earlier ++ later → (before part : List ℕ) (u : UndamagedPart part)
-      → received earlier .taken ≡ before ++ part
+  -- After the call that took its last byte, and as long as no `FD` is taken behind it, header, modes and grid are
+  -- that part's
+  pub held : (earlier later : List Call) → calls ≡ earlier ++ later → (before part rest : List ℕ) (u : UndamagedPart part)
+      → isIn FD rest ≡ false → received earlier .taken ≡ before ++ (part ++ rest)
       → (received earlier .state .header ≡ partHeader (u .part)) × (received earlier .state .modes ≡ partModes (u .part)) × (received earlier .grid ≡ gridOf (u .part))
   -- and the call that is answered 3 tells that part's number
   pub completeTells : (earlier : List Call) (r : Request) (later : List Call) → calls ≡ earlier ++ (onGrid r ∷ later)

@@ -50,7 +50,8 @@ abbrev pub between : List ℕ → ℕ → ℕ → Header → List ℕ → State
 between seen part due header modes =
     record { seen = seen; place = 0; kind = 0; picture = 0; part = part; due = due; check = 0; header = header; modes = modes }
 
--- An opening starts a text at place 1; an open part's header stays. Row 11: while a text is under way, drop, and the new text goes on.
+-- An opening starts a text at place 1; an open part's header stays. Row 11: while a text is under way, drop, and the
+-- new text goes on.
 -- Notice 49, 4(1)(1-1)(c)(ア)
 unfoldable pub opened : State → List ℕ → List ℕ → Step
 opened s g seen =

@@ -55,7 +55,8 @@ fresh = dropped []
 
 -- The ranges that refusal 2 names, and nothing more: header and modes are not judged, and a check byte is a byte
 
--- no part open and no text due, or a part and one of its texts, the start aside. Notice 49, 4(1)(1-1)(a), 4(1)(1-2)(a), 4(2)(a)
+-- no part open and no text due, or a part and one of its texts, the start aside. Notice 49, 4(1)(1-1)(a),
+-- 4(1)(1-2)(a), 4(2)(a)
 unfoldable pub isDue : ℕ → ℕ → Bool
 isDue part due = cond (eqb part 0) (eqb due 0) (isKind (kindOf part due) && not (eqb due 0))
 

@@ -1,5 +1,5 @@
--- What one byte does, in the code's own terms: next state, answer, effect on the grid. Each definition here is one of `receiver_spec`'s
--- Receiver, row for row; proofs/Laws shows that they are the same (step-same). Assumes nothing.
+-- What one byte does, in the code's own terms: next state, answer, effect on the grid. Each definition here is one of
+-- `receiver_spec`'s Receiver, row for row; proofs/Laws shows that they are the same (step-same). Assumes nothing.
 use Prim.Native.Nat.{ℕ}
 use mathlib.Core.Bool.{cond, not, _||_}
 use lib.Dec.{eqb}
@@ -53,7 +53,8 @@ startDecided s b =
     let here = frame 3 b (s .frame .picture) 0 0 (s .frame .check ⊕ b) (s .frame .count) in
     cond (eqb (s .frame .part) 0) (begins s here (s .frame .picture) Quiet Keep) (begins s here (s .frame .picture) (Dropped 15) Clear)
 
--- another kind: rows 14, 16 and 17, or 0. Notice 49, 4(1)(1-1)(d)(イ) and (ウ), 4(1)(1-2)(d)(イ) and (ウ), 4(2)(d)(イ) and (ウ)
+-- another kind: rows 14, 16 and 17, or 0. Notice 49, 4(1)(1-1)(d)(イ) and (ウ), 4(1)(1-2)(d)(イ) and (ウ), 4(2)(d)(イ) and
+-- (ウ)
 unfoldable pub kindRow : Frame → ℕ → ℕ → ℕ
 kindRow f picture b =
     cond (not (isKind b)) 14

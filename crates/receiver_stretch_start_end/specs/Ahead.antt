@@ -1,5 +1,5 @@
--- How many bytes between texts a slice begins with, and whether a whole start or end text stands behind them, in the code's terms.
--- Assumes nothing.
+-- How many bytes between texts a slice begins with, and whether a whole start or end text stands behind them, in the
+-- code's terms. Assumes nothing.
 use mathlib.Core.Path.{_≡_}
 use mathlib.Core.Bool.{Bool, cond, not, _&&_, _||_}
 use mathlib.Core.List.{List, [], _∷_}

@@ -1,4 +1,5 @@
--- Levels of an intensity grid, mesh by mesh, and what the services say of them: 01's section "Services". Assumes nothing.
+-- Levels of an intensity grid, mesh by mesh, and what the services say of them: 01's section "Services". Assumes
+-- nothing.
 use Prim.Native.Nat.{ℕ, zero, suc, _+_, _-_, _/_, _%_}
 use mathlib.Core.Bool.{Bool, cond, not, _&&_}
 use mathlib.Core.List.{List}

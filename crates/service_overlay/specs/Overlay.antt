@@ -5,7 +5,8 @@ use mathlib.Core.List.{List, [], _∷_}
 use Rattle.text.specs.DataBlock.{oddLevel, evenLevel}
 use Rattle.service_levels.specs.Meshes.{isGrid, hasNoLevel15, ServiceAnswer, done, refused}
 
--- mesh by mesh the higher level, byte by byte; proofs/Laws has it mesh by mesh (mesh-higher). Notice 49, 4(1)(1-1)(d)(ウ)
+-- mesh by mesh the higher level, byte by byte; proofs/Laws has it mesh by mesh (mesh-higher). Notice 49,
+-- 4(1)(1-1)(d)(ウ)
 unfoldable pub higherByte : ℕ → ℕ → ℕ
 higherByte a b = max (oddLevel a) (oddLevel b) * 16 + max (evenLevel a) (evenLevel b)
 

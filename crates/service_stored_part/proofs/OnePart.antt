@@ -2,7 +2,7 @@
 use mathlib.Core.Path.{_≡_, refl, sym, ap, ap₂, _∙_, subst}
 use mathlib.Core.Logic.{_↔_}
 use mathlib.Core.Bool.{Bool, true, false, _&&_}
-use mathlib.Core.List.{List, [], _∷_, _++_, append-assoc, map, append-nil}
+use mathlib.Core.List.{List, [], _∷_, _++_, append-assoc, map}
 use Prim.Native.Nat.{ℕ, suc, _+_, _-_, _≤_, _<_}
 use native.Mathlib.Omega.{arith}
 use lib.Dec.{eqb}
@@ -24,7 +24,7 @@ use Rattle.text_laws.proofs.Deciding.{part-decided}
 use Rattle.receiver_spec.specs.State.{State, fresh, emptyGrid}
 use Rattle.receiver_spec.specs.Calls.{byte, onGrid, singly, answersOf, stateAfter, Call}
 use Rattle.receiver_spec.specs.Demand3.{EndsUndamaged}
-use Rattle.receiver_spec.proofs.Laws.{calls-stepped, singly-taken, demand-3}
+use Rattle.receiver_spec.proofs.Laws.{calls-stepped, singly-taken, demand-3, held-then}
 
 -- ---- a part
 
@@ -97,7 +97,7 @@ expected-length-right before part bytes u e = ap₂ partLength kind noecho ∙ s
     ones = map (λ b. onGrid (byte b)) bytes
 
     header : stateAfter fresh emptyGrid bytes .header ≡ headerOf (u .part .start)
-    header = ap (λ (s : State). s .header) (sym (state-behind bytes)) ∙ demand-3 ones .held ones [] (sym (append-nil ones)) before part u (singly-taken bytes ∙ e) .0
+    header = ap (λ (s : State). s .header) (sym (state-behind bytes)) ∙ held-then ones before part u (singly-taken bytes ∙ e) .0
 
     noecho : stateAfter fresh emptyGrid bytes .header .noecho ≡ noEchoOf (u .part .start ! 4)
     noecho = ap (λ (h : Header). h .noecho) header

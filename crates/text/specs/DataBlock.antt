@@ -9,7 +9,8 @@ use Rattle.text.specs.Text.{FD}
 use Rattle.text.specs.Pictures.{isPictureCode}
 use Rattle.text.specs.Kinds.{isDataKind, partOf, blockLength}
 
--- Intensity: two meshes a byte, the odd number in the high four bits, the even one in the low. Notice 49, 4(1)(1-1)(d)(ウ)
+-- Intensity: two meshes a byte, the odd number in the high four bits, the even one in the low. Notice 49,
+-- 4(1)(1-1)(d)(ウ)
 unfoldable pub oddLevel : ℕ → ℕ
 oddLevel b = b / 16
 
@@ -17,7 +18,8 @@ oddLevel b = b / 16
 unfoldable pub evenLevel : ℕ → ℕ
 evenLevel b = b % 16
 
--- Data text k (1 to 10) has meshes 4,000 × (k − 1) + 1 to 4,000 × k: these two are in its payload byte i, counted from 0.
+-- Data text k (1 to 10) has meshes 4,000 × (k − 1) + 1 to 4,000 × k: these two are in its payload byte i, counted
+-- from 0.
 -- Notice 49, 4(1)(1-1)(c)(エ), whose table shows text 1: that text k goes on from text k − 1 is 01's rule.
 -- Where meshes lie on the map, (d)(エ), is outside 01
 unfoldable pub oddMesh : ℕ → ℕ → ℕ

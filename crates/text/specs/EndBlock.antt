@@ -32,7 +32,8 @@ isEndBlock radars block =
     ∷ every (λ b. eqb b 0x00) (drop 11 block)
     ∷ [])
 
--- 01: a part's modes are those of its end block, by place, 0 where there is no radar. Notice 49, 4(1)(1-1)(c)(ウ) and (d)(イ)
+-- 01: a part's modes are those of its end block, by place, 0 where there is no radar. Notice 49, 4(1)(1-1)(c)(ウ) and
+-- (d)(イ)
 unfoldable pub modesOf : List ℕ → List ℕ
 modesOf block = map (λ i. modeOf (block ! (3 + i))) radarPlaces
 

@@ -39,7 +39,8 @@ byText p t (k ∷ ks) = cond (eqb p (k .part) && eqb t (k .text)) k (byText p t 
 unfoldable pub isPartNumber : ℕ → Bool
 isPartNumber p = leb 1 p && leb p 3
 
--- The part of a kind, 0 where b is no kind. Notice 49, 4(1)(1-1)(d)(イ) and (ウ), 4(1)(1-2)(d)(イ) and (ウ), 4(2)(d)(イ) and (ウ)
+-- The part of a kind, 0 where b is no kind. Notice 49, 4(1)(1-1)(d)(イ) and (ウ), 4(1)(1-2)(d)(イ) and (ウ), 4(2)(d)(イ)
+-- and (ウ)
 unfoldable pub partOf : ℕ → ℕ
 partOf b = byCode b kinds .part
 
@@ -48,7 +49,8 @@ partOf b = byCode b kinds .part
 unfoldable pub textNumber : ℕ → ℕ
 textNumber b = byCode b kinds .text
 
--- The kind of text t of part p, 0 where there is none. Notice 49, 4(1)(1-1)(d)(イ) and (ウ), 4(1)(1-2)(d)(イ) and (ウ), 4(2)(d)(イ) and (ウ)
+-- The kind of text t of part p, 0 where there is none. Notice 49, 4(1)(1-1)(d)(イ) and (ウ), 4(1)(1-2)(d)(イ) and (ウ),
+-- 4(2)(d)(イ) and (ウ)
 unfoldable pub kindOf : ℕ → ℕ → ℕ
 kindOf p t = byText p t kinds .code
 

@@ -58,7 +58,8 @@ isLeapYear y = eqb (y % 4) 0 && not (eqb (y % 100) 0) || eqb (y % 400) 0
 unfoldable pub daysIn : ℕ → ℕ → ℕ
 daysIn y m = cond (eqb m 2) (cond (isLeapYear y) 29 28) (cond (isIn m (4 ∷ 6 ∷ 9 ∷ 11 ∷ [])) 30 31)
 
--- year, month, day, hour, minute: a date of years 0000 to 9999, hour 00 to 23, minute 00 to 59. Notice 49, 4(1)(1-1)(d)(イ)
+-- year, month, day, hour, minute: a date of years 0000 to 9999, hour 00 to 23, minute 00 to 59. Notice 49,
+-- 4(1)(1-1)(d)(イ)
 unfoldable pub isMoment : ℕ → ℕ → ℕ → ℕ → ℕ → Bool
 isMoment y m d h n =
     allOf (leb y 9999 ∷ leb 1 m ∷ leb m 12 ∷ leb 1 d ∷ leb d (daysIn y m) ∷ leb h 23 ∷ leb n 59 ∷ [])

@@ -2,7 +2,7 @@
 use mathlib.Core.Path.{_≡_, refl, sym, ap, ap₂, _∙_, subst}
 use mathlib.Core.Logic.{_⊎_, inl, inr}
 use mathlib.Core.Bool.{Bool, true, false, not, _&&_}
-use mathlib.Core.List.{List, [], _∷_, _++_, map, append-assoc, append-nil}
+use mathlib.Core.List.{List, [], _∷_, _++_, map, append-assoc}
 use Prim.Native.Nat.{ℕ, suc, _+_, _*_, _-_, _≤_}
 use native.Mathlib.Nat.{zero-add, mul-le-mul-right}
 use native.Mathlib.Omega.{arith}
@@ -23,7 +23,7 @@ use Rattle.text_laws.proofs.KindTable.{most-texts, no-texts}
 use Rattle.text_laws.proofs.Blocks.{part-keeps}
 use Rattle.text_laws.proofs.Parts.{part-length, payload-fits}
 use Rattle.receiver_spec.specs.Calls.{Call, onGrid, byte, received, singly}
-use Rattle.receiver_spec.proofs.Laws.{singly-taken, demand-3, not-before}
+use Rattle.receiver_spec.proofs.Laws.{singly-taken, demand-3, held-then, not-before}
 use Rattle.writer_spec.specs.Written.{writesNoEcho, blockOf, startContents, endContents, dataBlocks, writtenPart, isPayload, WriteOutcome, bytesWritten, writes}
 use Rattle.writer_spec.specs.Demand2.{Accepted, written, writtenHeader, ReadsBack}
 use Rattle.writer_spec.proofs.RulesKept.{OneToThree, one, two, three, part-is, kind-edges, picture, top-mode, mode-back, start-kept, start-header, status-back, end-kept, end-modes}
@@ -184,7 +184,7 @@ module _ (p : ℕ) (h : WriterHeader) (modes payload : List ℕ) (t : Accepted p
   anywhere calls others taken =
       let bytes = written p h modes payload in
       let d = demand-3 calls in
-      let (held-header, held-modes, held-grid) = d .held calls [] (sym (append-nil calls)) others bytes undamaged taken in
+      let (held-header, held-modes, held-grid) = held-then calls others bytes undamaged taken in
       let front = take (length bytes - 1) bytes in
       let z = getD bytes (length bytes - 1) 0 in
       let some : 1 ≤ length bytes = omega (arith, long, some-length is e) in

@@ -1,6 +1,6 @@
 -- Complete is rewritten, of calls: what a call answered 3 returned and left is handed to the writer. Assumes nothing.
 use mathlib.Core.Path.{_≡_, refl, sym, ap, ap₂, _∙_}
-use mathlib.Core.List.{List, [], _∷_, _++_, append-assoc, append-nil}
+use mathlib.Core.List.{List, [], _∷_, _++_, append-assoc}
 use Prim.Native.Nat.{ℕ, zero, suc, _+_, _-_, _≤_}
 use native.Mathlib.Omega.{arith}
 use lib.ListN.{length, getD, take, length-append}
@@ -13,7 +13,7 @@ use Rattle.text.specs.declared.header.Header.{Header}
 use Rattle.receiver_spec.specs.State.{fresh, emptyGrid}
 use Rattle.receiver_spec.specs.Calls.{partComplete, number, CallOutcome, Request, byte, slice, Call, onGrid, ask, bytesOf, spread, After, start, add, next, received}
 use Rattle.receiver_spec.specs.Demand3.{EndsUndamaged}
-use Rattle.receiver_spec.proofs.Laws.{demand-3, after-last, calls-stepped, answers-long, spread-last}
+use Rattle.receiver_spec.proofs.Laws.{demand-3, held-then, after-last, calls-stepped, answers-long, spread-last}
 use Rattle.writer_spec.specs.Written.{writes}
 use Rattle.writer_spec.specs.Demand2.{heldPart, heldPayload, Relayed}
 use Rattle.writer_spec.proofs.ReadsBack.{reads-back}
@@ -96,7 +96,7 @@ module _ (calls : List Call) (r : Request) (complete : number (ask (received cal
   handed : writes p (writerHeaderOf (received list .state .header)) (received list .state .modes) (take (payloadLength p) (received list .grid))
       ≡ writes p (writerHeaderOf (partHeader (u .part))) (partModes (u .part)) (heldPayload (u .part))
   handed =
-      let (header, modes, grid) = demand-3 list .held list [] (sym (append-nil list)) (ends .before) (ends .part) u split in
+      let (header, modes, grid) = held-then list (ends .before) (ends .part) u split in
       ap₂ (λ (h : Header) m. writes p (writerHeaderOf h) m (take (payloadLength p) (received list .grid))) header modes
       ∙ ap (λ g. writes p (writerHeaderOf (partHeader (u .part))) (partModes (u .part)) (take (payloadLength p) g)) grid
 

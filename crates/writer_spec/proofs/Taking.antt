@@ -1,18 +1,18 @@
--- What the writer takes and what it refuses: written means accepted with room, and a refusal leaves the output. Assumes nothing.
-use mathlib.Core.Path.{_≡_, refl, ap}
+-- What the writer takes and what it refuses: written means accepted with room, and any other call is refused by its row. Assumes nothing.
+use mathlib.Core.Path.{_≡_, ap}
 use mathlib.Core.Bool.{true, false, not}
 use mathlib.Core.List.{List}
 use Prim.Native.Nat.{ℕ, _≤_}
 use native.Mathlib.Omega.{arith}
 use lib.Dec.{ltb}
 use lib.ListN.{length}
-use borrow.Author.Tests.{ltb-false, not-false}
+use borrow.Author.Tests.{ltb-false, lt-ltb, not-false}
 use Rattle.text.specs.Kinds.{isPartNumber, partLength}
 use Rattle.text.specs.WriterInput.{isWriterInput}
 use Rattle.text.specs.declared.header.WriterHeader.{WriterHeader}
 use Rattle.general_laws.proofs.Tests.{by-if}
 use Rattle.writer_spec.specs.Written.{isPayload, writesNoEcho, WriteAnswer, bytesWritten, refused, WriteOutcome, writes}
-use Rattle.writer_spec.specs.Demand2.{Accepted, written}
+use Rattle.writer_spec.specs.Demand2.{Accepted, written, RefusedByRow}
 use Rattle.writer_spec.proofs.ReadsBack.{reads-back}
 
 -- an answer is a number of bytes or a refusal
@@ -47,13 +47,12 @@ module _ (p : ℕ) (h : WriterHeader) (modes payload output : List ℕ) where
       } in
       (accepted, omega (arith, reads-back p h modes payload accepted .long, ltb-false (length output) long room))))))
 
-  abbrev Left : WriteOutcome → Type 0
-  Left o = (n : ℕ) → o .answer ≡ refused n → (o .count ≡ 0) × (o .output ≡ output)
-
-  pub left-alone : Left (writes p h modes payload output)
+  pub refused-by-row : RefusedByRow p h modes payload output
   unfolding writes
-  left-alone =
-      by-if Left (not (isPartNumber p)) (λ _ n e. (refl, refl))
-      (λ _. by-if Left (not (isWriterInput h modes)) (λ _ n e. (refl, refl))
-      (λ _. by-if Left (not (isPayload p payload)) (λ _ n e. (refl, refl))
-      (λ _. by-if Left (ltb (length output) long) (λ _ n e. (refl, refl)) (λ _ n e. absurd (omega (arith, ap isRefusal e))))))
+  refused-by-row =
+      record {
+        row31 = λ part. rw part;
+        row32 = λ part input. rw (part, input);
+        row33 = λ part input allowed. rw (part, input, allowed);
+        row34 = λ part input allowed short. rw (part, input, allowed, lt-ltb (length output) long short);
+      }

@@ -49,20 +49,23 @@ pub record ReadsBack (p : ℕ) (h : WriterHeader) (modes payload : List ℕ) : T
   -- the bytes are an undamaged part, as long as was said
   pub undamaged : UndamagedPart (written p h modes payload)
   pub long : length (written p h modes payload) ≡ partLength p (writesNoEcho p payload)
-  -- the writer puts them at the front of every output that has room, says how many they are, and leaves what lies behind them
+  -- the writer puts them at the front of every output that has room, says how many they are, and leaves what lies
+  -- behind them
   pub placed : (output : List ℕ) → length (written p h modes payload) ≤ length output
       → writes p h modes payload output ≡ record { answer = bytesWritten (length (written p h modes payload)); count = length (written p h modes payload); output = written p h modes payload ++ drop (length (written p h modes payload)) output }
   -- a fresh receiver that is given them one by one answers complete at the last byte and not before
   pub last : singly (written p h modes payload) .said ! (length (written p h modes payload) - 1) ≡ 3
   pub before : (i : ℕ) → suc i < length (written p h modes payload) → singly (written p h modes payload) .said ! i ≢ 3
-  -- whatever calls took them, and whatever bytes were taken before: complete at the last byte, and the same header, modes and grid
+  -- whatever calls took them, and whatever bytes were taken before: complete at the last byte, and the same header,
+  -- modes and grid
   pub anywhere : (calls : List Call) (others : List ℕ) → received calls .taken ≡ others ++ written p h modes payload
       → (received calls .said ! (length others + (length (written p h modes payload) - 1)) ≡ 3)
       × (received calls .state .header ≡ writtenHeader p h modes payload)
       × (received calls .state .modes ≡ modes)
       × (received calls .grid ≡ payload ++ zeros (gridLength - length payload))
 
--- What a receiver holds after an undamaged part, handed to the writer: header without status bytes, modes, and the payload's bytes of the grid
+-- What a receiver holds after an undamaged part, handed to the writer: header without status bytes, modes, and the
+-- payload's bytes of the grid
 abbrev pub heldPart : Part → ℕ
 heldPart part = startPart (part .start)
 
@@ -113,8 +116,8 @@ isPlainEnd part = every (λ i. eqb (plainMode (part .end ! i)) (part .end ! i)) 
 abbrev pub isPlain : Part → Bool
 isPlain part = isPlainStart part && isPlainEnd part
 
--- The blocks that are written in the exception: the start block that came, with NO ECHO alone in status 1 and the mode alone in status 2;
--- the end block that came, with the modes alone in its mode bytes
+-- The blocks that are written in the exception: the start block that came, with NO ECHO alone in status 1 and the
+-- mode alone in status 2; the end block that came, with the modes alone in its mode bytes
 abbrev pub noEchoStart : Part → List ℕ
 noEchoStart part = sets (part .start) 4 (0x08 ∷ plainMode (part .start ! 5) ∷ [])
 
@@ -146,9 +149,9 @@ pub record Rewritten (bytes : List ℕ) (u : UndamagedPart bytes) : Type 0 where
       → (partBytes (rewrittenPart (u .part)) ≡ textOf (noEchoStart (u .part)) ++ textOf (noEchoEnd (u .part)))
       × (length (partBytes (rewrittenPart (u .part))) ≡ 80)
 
--- Complete is rewritten, of calls: one more call r after these was answered 3, complete. The bytes taken end with an undamaged part, whose
--- number complete tells; that number with the header, modes and grid returned and left, handed to the writer with an output that has room,
--- is taken; and what is written is that part, but for what 01 names
+-- Complete is rewritten, of calls: one more call r after these was answered 3, complete. The bytes taken end with an
+-- undamaged part, whose number complete tells; that number with the header, modes and grid returned and left, handed
+-- to the writer with an output that has room, is taken; and what is written is that part, but for what 01 names
 pub record Relayed (calls : List Call) (r : Request) : Type 0 where
   pub before : List ℕ
   pub bytes : List ℕ
@@ -163,6 +166,17 @@ pub record Relayed (calls : List Call) (r : Request) : Type 0 where
       ≡ record { answer = bytesWritten (length again); count = length again; output = again ++ drop (length again) output }
   pub rewritten : Rewritten bytes whole
 
+-- Rows 31 to 34 in order: the output unchanged, 0 written
+pub record RefusedByRow (p : ℕ) (h : WriterHeader) (modes payload output : List ℕ) : Type 0 where
+  pub row31 : isPartNumber p ≡ false → writes p h modes payload output ≡ record { answer = refused 31; count = 0; output = output }
+  pub row32 : isPartNumber p ≡ true → isWriterInput h modes ≡ false
+      → writes p h modes payload output ≡ record { answer = refused 32; count = 0; output = output }
+  pub row33 : isPartNumber p ≡ true → isWriterInput h modes ≡ true → isPayload p payload ≡ false
+      → writes p h modes payload output ≡ record { answer = refused 33; count = 0; output = output }
+  pub row34 : isPartNumber p ≡ true → isWriterInput h modes ≡ true → isPayload p payload ≡ true
+      → length output < partLength p (writesNoEcho p payload)
+      → writes p h modes payload output ≡ record { answer = refused 34; count = 0; output = output }
+
 -- The two halves, for all input; and the second of every list of calls, and each call of it that is answered complete
 pub record Demand2 : Type 0 where
   -- What the writer takes reads back
@@ -171,12 +185,12 @@ pub record Demand2 : Type 0 where
   pub nothingElse : (p : ℕ) (h : WriterHeader) (modes payload output : List ℕ) → length (h .time) ≡ 12 → length (h .radars) ≡ 8 → length modes ≡ 8
       → (n : ℕ) → writes p h modes payload output .answer ≡ bytesWritten n
       → Accepted p h modes payload × (length (written p h modes payload) ≤ length output)
-  -- Any other call leaves the output as it was, with 0 written
-  pub leftAlone : (p : ℕ) (h : WriterHeader) (modes payload output : List ℕ) (n : ℕ) → writes p h modes payload output .answer ≡ refused n
-      → (writes p h modes payload output .count ≡ 0) × (writes p h modes payload output .output ≡ output)
+  -- Any other call is refused by the first row that it breaks
+  pub rows : (p : ℕ) (h : WriterHeader) (modes payload output : List ℕ) → RefusedByRow p h modes payload output
   -- Complete is rewritten
   pub rewritten : (bytes : List ℕ) (u : UndamagedPart bytes) → Rewritten bytes u
-  -- by its bits: status 1 keeps bit 3, and none in quality; status 2 and the mode bytes keep bits 2, 4 and 6; all others are 0
+  -- by its bits: status 1 keeps bit 3, and none in quality; status 2 and the mode bytes keep bits 2, 4 and 6; all
+  -- others are 0
   pub statusBits : (p b k : ℕ) → k < 8 → bit (plainStatus p b) k ≡ (eqb k 3 && (bit b 3 && not (eqb p 3)))
   pub modeBits : (b : ℕ) → b < 256 → hasMode b ≡ true → (k : ℕ) → k < 8 → bit (plainMode b) k ≡ (isIn k (2 ∷ 4 ∷ 6 ∷ []) && bit b k)
   pub relayed : (calls : List Call) (r : Request) → number (ask (received calls .state) (received calls .grid) r .reply) ≡ 3 → Relayed calls r
