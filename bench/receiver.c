@@ -1,5 +1,6 @@
 /* The receiver of 01-scope.md, section "The receiver", written plainly in C from that paper, to be
- * measured against. Rows are those of 01's table, and what stands in quotes is 01's.
+ * measured against. Rows are those of 01's table, and what stands in quotes is 01's; for the quality
+ * bits it is that of request #107, which put a new sheet in place of 01's.
  *
  *   byte_call           one byte, the state by pointer
  *   slice_call          a slice, byte by byte, up to the first answer other than 0
@@ -112,13 +113,13 @@ static int mode_of(uint8_t b)
     return 0;
 }
 
-/* "levels 0 to 14"; "0 to 8"; "`00` to `3F`, or `40`" */
+/* "levels 0 to 14"; "0 to 8"; #107: "Allowed are `00` to `7F`, and `80`." */
 static inline int is_payload(int part, uint8_t b)
 {
     switch (part) {
     case INTENSITY: return b < 0xF0 && (b & 0x0F) != 0x0F;
     case TOP: return b <= 8;
-    default: return b <= 0x40;
+    default: return b <= 0x80;
     }
 }
 

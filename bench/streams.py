@@ -7,7 +7,8 @@ short.bin      NO ECHO parts of intensity and echo top, and quality parts, in tu
 noise.bin      pseudo-random bytes with a fixed seed; no opening is in them
 
 The first two hold as many whole parts as fit, and so are a little shorter; undamaged, they get the
-answers 1, 2 and 3 alone. The parts are built with tests/model/texts.py from 01's section "A text".
+answers 1, 2 and 3 alone. The parts are built with tests/model/texts.py from 01's section "A text";
+quality bytes are drawn from the whole sheet of request #107.
 """
 
 import random

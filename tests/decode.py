@@ -4,8 +4,9 @@
     python3 tests/decode.py > crates/decode/stdout
 
 What a part has is what the model of 01's receiver, tests/model/receiver.py, holds at answer 3. The layout
-stands in crates/decode/src/main.rt. Names, and where levels begin, are tables of notice No. 49. The stream
-is one after the other of the pieces below, which have every picture code, every radar and every answer.
+stands in crates/decode/src/main.rt. Names, and where levels begin, are tables of notice No. 49; the causes of
+quality are request #107's, by their bits. The stream is one after the other of the pieces below, which have
+every picture code, every radar, every value of quality and every answer.
 Each piece is given with the answers that it must get, worked out by hand from 01's table; where the model
 gives others, this ends with an error. "Row" is a row of that table.
 """
@@ -15,8 +16,8 @@ from collections import Counter
 
 sys.dont_write_bytecode = True
 from try_byte_call import altered
-from listen import (EIGHT_RADARS, INTENSITY_ANSWERS, QUALITY_BEGUN, THREE_RADARS, TOP_BEGUN, TOP_TAKEN,
-                            data, end, start, whole, with_extra)
+from listen import (EIGHT_RADARS, INTENSITY_ANSWERS, QUALITY_BEGUN, QUALITY_HIGH, QUALITY_LOW, THREE_RADARS,
+                            TOP_BEGUN, TOP_TAKEN, data, end, start, whole, with_extra)
 from receiver import SAMPLE_END, SAMPLE_START, Receiver
 from texts import FE, INTENSITY, OPENING, PICTURES, QUALITY, RADARS, TOP, payload_length
 
@@ -86,8 +87,10 @@ STORM = bytes((level := (i // 130 + i % 7) % 15) * 16 + (level + 1) % 15 for i i
 STORM = bytes(0 if {4, 11} & {b // 16, b % 16} else b for b in STORM)
 TOPS = sparse(TOP, {0: 1, 1: 2, 2: 2, 17: 8, 18: 7, 19: 6, 20: 5, 21: 5, 22: 4, 399: 3})
 LOW_TOPS = sparse(TOP, dict.fromkeys(range(40, 300), 1))
-CLUTTER = sparse(QUALITY, {0: 0x01, 1: 0x02, 2: 0x04, 3: 0x08, 4: 0x10, 5: 0x20, 6: 0x05, 7: 0x05, 8: 0x05,
-                           9: 0x3F, 10: 0x40, 11: 0x40, 50: 0x2A, 98: 0x40, 99: 0x15})
+# Each cause alone, some and all together, and unknown, at both ends too
+CLUTTER = sparse(QUALITY, {0: 0x80, 1: 0x01, 2: 0x02, 3: 0x04, 4: 0x08, 5: 0x10, 6: 0x20, 7: 0x40, 8: 0x05,
+                           9: 0x05, 10: 0x05, 11: 0x3F, 12: 0x41, 13: 0x41, 14: 0x7F, 15: 0x7E, 16: 0x60,
+                           17: 0x55, 50: 0x2A, 51: 0x6A, 52: 0x15, 53: 0x43, 98: 0x80, 99: 0x80})
 QUALITY_DATA = data(QUALITY, 1, CLUTTER)
 
 
@@ -122,7 +125,11 @@ PIECES = [
     (whole(TOP, bytes(400), picture=0xC0, time="000001010000"), (1, 2, 3)),
     (start(QUALITY, noecho=True) + QUALITY_DATA + end(QUALITY), (1, 2, 3)),
     (whole(QUALITY, bytes(100), picture=0xD8), (1, 2, 3)),
-    (whole(QUALITY, b"\x40" * 100, picture=0xE5), (1, 2, 3)),
+    (whole(QUALITY, b"\x80" * 100, picture=0xE5), (1, 2, 3)),
+    (whole(QUALITY, b"\x40" * 100, picture=0xE4), (1, 2, 3)),
+    # Every value of quality: as many in one part as it has meshes
+    (whole(QUALITY, QUALITY_LOW, picture=0xD4), (1, 2, 3)),
+    (whole(QUALITY, QUALITY_HIGH, picture=0xD5), (1, 2, 3)),
     # Every picture code, and every radar alone
     *((no_echo(INTENSITY, picture=code, clock=100 + i), (1, 3)) for i, code in enumerate(PICTURES)),
     *((no_echo(TOP, (1 + i % 3,), mode=1 + i % 3, radars=radars(code)), (1, 3)) for i, code in enumerate(RADARS)),
@@ -137,9 +144,11 @@ PIECES = [
     (TOP_BEGUN + no_echo(TOP), (1, 15, 1, 3)),
     (TOP_BEGUN + end(TOP), (1, 16)),
     (altered(no_echo(TOP), 46, 0xC0), (1, 17)),
-    # Row 18: no minute 60, and an echo top 9
+    # Row 18: no minute 60, an echo top 9, and quality's bit 7 with a cause beside it
     (start(TOP, time="199906071260"), (18,)),
     (TOP_BEGUN + data(TOP, 1, TOPS, {3: 9}) + end(TOP), (1, 18, 16)),
+    *((QUALITY_BEGUN + data(QUALITY, 1, CLUTTER, {place: b}) + end(QUALITY), (1, 18, 16))
+      for place, b in ((3, 0x81), (52, 0xC0), (102, 0xFF))),
     # Row 19: a payload byte too many; row 20: one altered to an allowed one; row 21: the `FF`; row 22: status 2
     # says mode 1, and the radar's mode is 2
     (QUALITY_BEGUN + with_extra(QUALITY_DATA, 50, 0x05), (1, 19)),
@@ -162,10 +171,11 @@ def meshes(part, grid):
     return Counter([n for b in payload for n in divmod(b, 16)] if part == INTENSITY else payload)
 
 
+# #107: "seven named causes in bits 0 to 6, and "cause unknown" in bit 7, alone"
 def causes(value):
-    if value == 0x40:
+    if value == 1 << 7:
         return "cause unknown"
-    named = [str(bit) for bit in range(6) if value >> bit & 1]
+    named = [str(bit) for bit in range(7) if value >> bit & 1]
     return " ".join(["causes", *named]) if named else "no cause"
 
 

@@ -4,7 +4,7 @@
     python3 tests/differential.py [--seconds 60] [--seed 1] [--length 200000]
                                   [--bin target/bin] [--programs listen,try_traffic]
 
-The model, in C under tests/second/, was written from 01 alone.  It is built
+The model, in C under tests/second/, was written from 01 and the requests alone.  It is built
 into a temporary folder with $CC (else cc).  For seed, seed + 1, ... until the
 time is up a stream is made, and many short ones are cut from it (0 to 300
 bytes, at any place).  On each stream the complete outputs are compared:

@@ -94,8 +94,12 @@ def level(n):
 INTENSITY_PAYLOAD = bytearray(level(2 * i + 1) << 4 | level(2 * i + 2) for i in range(20_000))
 INTENSITY_PAYLOAD[12_345:12_350] = CONTROL
 TOP_PAYLOAD = bytes(i * i // 3 % 9 for i in range(400))
-QUALITY_PAYLOAD = bytes([*range(0x41), *(i * 5 % 0x40 for i in range(35))])
-assert 0x16 in INTENSITY_PAYLOAD[:2000] and max(TOP_PAYLOAD) == 8 and QUALITY_PAYLOAD[0x40] == 0x40
+# Bit 7 alone at both ends, and causes in between: the even values, and the odd ones from `3F` on
+QUALITY_PAYLOAD = bytes([0x80, *range(0x00, 0x80, 2), *range(0x3F, 0x80, 2), 0x40, 0x80])
+assert 0x16 in INTENSITY_PAYLOAD[:2000] and max(TOP_PAYLOAD) == 8
+assert len(QUALITY_PAYLOAD) == 100 and {0x00, 0x3F, 0x40, 0x41, 0x7F, 0x80} <= set(QUALITY_PAYLOAD)
+# Every value that a quality payload may have, in two payloads
+QUALITY_LOW, QUALITY_HIGH = bytes(range(0x00, 0x64)), bytes(range(0x1D, 0x81))
 
 INTENSITY_ANSWERS = (1, *(2,) * 10, 3)  # the answers to an intensity part with its data texts
 
@@ -152,6 +156,9 @@ piece(whole(QUALITY, QUALITY_PAYLOAD, picture=0xF1, time="999912312359"), 1, 2, 
 for_eight = {"modes": (1, 2, 3, 1, 2, 3, 1, 2), "mode": 3, "radars": EIGHT_RADARS}
 piece(whole(QUALITY, bytes(100), clock=0, **for_eight) + whole(TOP, bytes(400), clock=16_383, **for_eight),
       1, 2, 3, 1, 2, 3)
+# Quality: all values, and one value throughout: all causes, unknown alone
+for payload in (QUALITY_LOW, QUALITY_HIGH, b"\x7F" * 100, b"\x80" * 100):
+    piece(whole(QUALITY, payload), 1, 2, 3)
 # NO ECHO: "intensity and echo top have no data texts; quality always has one"
 piece(start(INTENSITY, noecho=True) + end(INTENSITY), 1, 3)
 piece(start(TOP, noecho=True) + end(TOP), 1, 3)
@@ -312,13 +319,16 @@ piece(start(TOP, noecho=True, time="200002292359") + end(TOP), 1, 3)
 for place, radars in ((24, "00"), (24, "A6"), (24, "16"), (25, "A5 A3"), (25, "A5 A5"), (25, "A5 B2"),
                       (25, "A5 B7"), (26, "A5 00 A7"), (31, "A0 A1 A2 A3 A4 A5 A7 A4")):
     answered_at(place, 18, start(TOP, radars=bytes.fromhex(radars).ljust(8, b"\0")))
-# Payload: echo top 9; levels 15; quality `41`, `80`; `FD`, `FE` and `FF`, which no payload has
+# Payload: echo top 9; levels 15; quality's bit 7 with a cause beside it; `FD`, `FE` and `FF`, which no payload has
 for place, b in ((3, 9), (402, 9), (3, FD), (9, FE), (10, 0xFF)):
     answered_at(place, 18, data(TOP, 1, TOP_PAYLOAD, {place: b}), TOP_BEGUN, (1,))
 for place, b in ((3, 0xEF), (4, 0xF0), (50, FD), (60, FE), (2002, 0xFF)):
     answered_at(place, 18, data(INTENSITY, 1, INTENSITY_PAYLOAD, {place: b}), INTENSITY_BEGUN, (1,))
-for place, b in ((3, 0x41), (4, 0x80), (102, 0x7F), (102, FD)):
-    answered_at(place, 18, data(QUALITY, 1, QUALITY_PAYLOAD, {place: b}), QUALITY_BEGUN, (1,))
+for place in (3, 52, 102):
+    for b in (0x81, 0x82, 0x84, 0x88, 0x90, 0xA0, 0xC0, FD, FE, 0xFF):
+        answered_at(place, 18, data(QUALITY, 1, QUALITY_PAYLOAD, {place: b}), QUALITY_BEGUN, (1,))
+for place, b, others in ((3, 0x81, b"\x80"), (59, 0x81, b"\x80"), (102, 0xFF, b"\x80"), (60, 0xC0, b"\x7F")):
+    answered_at(place, 18, data(QUALITY, 1, others * 100, {place: b}), QUALITY_BEGUN, (1,))
 # End block: no mode, two modes, meaningless bits alone; a mode or a meaningless bit where there is no radar;
 # byte 11 and byte 31
 for place, b in ((3, 0x00), (3, 0x50), (3, 0xAB), (4, 0x04), (4, 0x01), (10, 0x04), (11, 0x04), (31, 0x01)):
@@ -352,8 +362,12 @@ piece(TOP_BEGUN + good[:-3] + SAMPLE_START + SAMPLE_END, 1, 19, 1, 3)
 altered = good[:200] + bytes([(good[200] + 1) % 9]) + good[201:]
 answered_at(404, 20, altered, TOP_BEGUN, (1,))
 piece(altered[-1:] + end(TOP), 16)
-# The check byte without the `FE`; `FD`, and then a block's bytes: nothing starts there
+# Quality's too: `40` to `41`, `7F` to `80`, `80` to `00`
 good = data(QUALITY, 1, QUALITY_PAYLOAD)
+for b, other in ((0x40, 0x41), (0x7F, 0x80), (0x80, 0x00)):
+    at = 8 + QUALITY_PAYLOAD.index(b)
+    answered_at(104, 20, good[:at] + bytes([other]) + good[at + 1:], QUALITY_BEGUN, (1,))
+# The check byte without the `FE`; `FD`, and then a block's bytes: nothing starts there
 answered_at(104, 20, good[:-2] + bytes([good[-2] ^ FE, 0xFF]), QUALITY_BEGUN, (1,))
 piece(QUALITY_BEGUN + good[:-2] + SAMPLE_START[5:], 1, 20)
 answered_at(33, 20, SAMPLE_START[:-2] + b"\x4E\xFF")

@@ -13,10 +13,10 @@ import sys
 from collections import Counter
 
 sys.dont_write_bytecode = True
-from listen import (QUALITY_BEGUN, QUALITY_PAYLOAD, THREE_RADARS, TOP_BEGUN, TOP_PAYLOAD, TOP_TAKEN,
-                            data, end, start, whole, with_extra)
+from listen import (QUALITY_BEGUN, QUALITY_HIGH, QUALITY_LOW, QUALITY_PAYLOAD, THREE_RADARS, TOP_BEGUN,
+                            TOP_PAYLOAD, TOP_TAKEN, data, end, start, whole, with_extra)
 from receiver import SAMPLE_END, SAMPLE_START, Receiver
-from texts import FE, INTENSITY, OPENING, QUALITY, TOP
+from texts import FD, FE, FF, INTENSITY, OPENING, QUALITY, TOP
 
 NO_ECHO = start(INTENSITY, noecho=True) + end(INTENSITY)
 WITH_TOPS = whole(TOP, TOP_PAYLOAD, modes=(2, 1, 1), mode=2, radars=THREE_RADARS)
@@ -37,6 +37,8 @@ PIECES = [
     (NO_ECHO, (1, 3)),
     (WITH_TOPS, (1, 2, 3)),
     (WITH_QUALITY, (1, 2, 3)),
+    # Every value that a quality payload may have
+    (whole(QUALITY, QUALITY_LOW) + whole(QUALITY, QUALITY_HIGH), (1, 2, 3) * 2),
     (bytes(range(256)), ()),  # noise with no part open
     (NO_ECHO * 9, (1, 3) * 9),  # so that a count has two digits
     # Row 11: an opening in quality payload, and the new text goes on
@@ -55,10 +57,14 @@ PIECES = [
     # Row 18: an echo top 9, and a second radar that is not above the first
     (TOP_BEGUN + data(TOP, 1, TOP_PAYLOAD, {3: 9}) + end(TOP), (1, 18, 16)),
     (start(TOP, radars=bytes.fromhex("A5 A3 00 00 00 00 00 00")), (18,)),
+    # ... and quality's bit 7 with a cause beside it, and what no payload has
+    *((QUALITY_BEGUN + data(QUALITY, 1, QUALITY_PAYLOAD, {place: b}) + end(QUALITY), (1, 18, 16))
+      for place, b in ((3, 0x81), (3, FF), (52, 0xC0), (53, FE), (102, 0x81), (102, FD))),
     # Row 19: a payload byte too many
     (QUALITY_BEGUN + with_extra(QUALITY_DATA, 50, 0x05), (1, 19)),
     # Row 20: a payload byte altered to an allowed one; row 21: the `FF`
     (altered(WITH_TOPS, 200, (WITH_TOPS[200] + 1) % 9), (1, 20, 16)),
+    (altered(WITH_QUALITY, 48 + QUALITY_PAYLOAD.index(0x40), 0x41), (1, 20, 16)),
     (altered(WITH_QUALITY, 190, FE), (1, 2, 21)),
     # Row 22: status 2 says mode 1, and the radar's mode is 2
     (start(TOP, noecho=True) + end(TOP, (2,)), (1, 22)),

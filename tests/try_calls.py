@@ -53,7 +53,9 @@ NO_ECHO = texts.make_part(INTENSITY, header(0xCC, "199906071210", "A5", 1, 9983,
 TOP_PAYLOAD = bytes(i * i // 3 % 9 for i in range(400))
 WITH_TOPS = texts.make_part(TOP, header(0xC0, "200002292359", "A0 A7 B3", 2, 16_383),
                             (2, 1, 1, *(0,) * 5), TOP_PAYLOAD)
-QUALITY_PAYLOAD = bytes([*range(0x41), *(i * 5 % 0x40 for i in range(35))])
+# Bit 7 alone at both ends, and causes in between: the even values, and the odd ones from `3F` on
+QUALITY_PAYLOAD = bytes([0x80, *range(0x00, 0x80, 2), *range(0x3F, 0x80, 2), 0x40, 0x80])
+assert len(QUALITY_PAYLOAD) == 100 and {0x00, 0x3F, 0x40, 0x41, 0x7F, 0x80} <= set(QUALITY_PAYLOAD)
 WITH_QUALITY = texts.make_part(QUALITY, header(0xF1, "000001010000", "A5 A7 AF B0 B1 B3 B5 B6", 3, 128),
                                (1, 2, 3, 1, 2, 3, 1, 2), QUALITY_PAYLOAD)
 assert [len(part) for part in (NO_ECHO, WITH_TOPS, WITH_QUALITY)] == [80, 491, 191]
@@ -67,6 +69,13 @@ record(altered(NO_ECHO, 46, 0xC0), 1, 17)
 # The last payload byte, altered to an allowed one: the check byte does not fit (row 20), and the end text
 # has no part open (row 16)
 record(altered(WITH_TOPS, 40 + 8 + 399, 8 - TOP_PAYLOAD[399]), 1, 20, 16)
+# Quality's first payload byte and one in the middle, the same: `80` to `7F`, `40` to `41`
+record(altered(WITH_QUALITY, 40 + 8, 0x7F), 1, 20, 16)
+record(altered(WITH_QUALITY, 40 + 8 + QUALITY_PAYLOAD.index(0x40), 0x41), 1, 20, 16)
+# Altered to one that is not allowed, at the first, a middle and the last place (row 18)
+record(altered(WITH_QUALITY, 40 + 8, 0x81), 1, 18, 16)
+record(altered(WITH_QUALITY, 40 + 8 + 50, 0xC0), 1, 18, 16)
+record(altered(WITH_QUALITY, 40 + 8 + 99, 0xFF), 1, 18, 16)
 # The end text's `FF` (row 21)
 record(altered(WITH_QUALITY, 190, 0xFE), 1, 2, 21)
 # Last, so that the refusals below have something to leave

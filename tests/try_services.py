@@ -60,7 +60,7 @@ def answer(start, name, found, wanted):
 
 # The bytes that a part may carry, in rising order
 ALLOWED = {part: bytes(b for b in range(256) if texts.is_payload_byte(part, b)) for part in texts.PARTS}
-assert [len(ALLOWED[part]) for part in texts.PARTS] == [225, 9, 65]
+assert [len(ALLOWED[part]) for part in texts.PARTS] == [225, 9, 129]
 
 
 # The two sample grids, in as many bytes as a call has: all 225 bytes in turn, in two orders
@@ -190,13 +190,17 @@ def clocks():
 WRITER_HEADER = WriterHeader((1, 9, 9, 9, 0, 6, 0, 7, 1, 2, 1, 0), (0xA0, 0xA7, 0xB3, *(0,) * 5), 9983, 0xCC)
 MODES = (2, 1, 3, *(0,) * 5)
 
+# Payloads: the first sample grid, echo tops in turn, and the hundred highest values of quality
+SAMPLES = {
+    INTENSITY: FIRST,
+    TOP: bytes(ALLOWED[TOP][i % 9] for i in range(400)),
+    QUALITY: ALLOWED[QUALITY][-100:],
+}
+
 
 # A part with data, or with a payload of all zeros
 def made(part, echoes=True):
-    size = texts.payload_length(part)
-    payload = bytes(size)
-    if echoes:
-        payload = FIRST if part == INTENSITY else bytes(ALLOWED[part][i % len(ALLOWED[part])] for i in range(size))
+    payload = SAMPLES[part] if echoes else bytes(texts.payload_length(part))
     return texts.written_part(part, WRITER_HEADER, MODES, payload)
 
 
@@ -227,7 +231,7 @@ def part_lines(part, data, length, shares):
 
 
 def payloads():
-    tops, qualities = bytes(i % 9 for i in range(400)), bytes(i % 65 for i in range(100))
+    tops, qualities = bytes(i % 9 for i in range(400)), bytes(range(0x1D, 0x81))
     part_lines(INTENSITY, made(INTENSITY), 20_190, [FIRST[i:i + 2000] for i in range(0, GRID, 2000)])
     part_lines(TOP, made(TOP), 491, [tops])
     part_lines(QUALITY, made(QUALITY), 191, [qualities])

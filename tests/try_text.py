@@ -327,17 +327,25 @@ ALMOST_ZEROS = (
 
 
 # For parts 0 to 4 no bytes, and the bytes that each of the parts 1 to 3 may carry; for these parts their own
-# with one that they may not, at the front and at the end
+# with one that they may not, at the front and at the end. For quality more of these, in the middle too, and the
+# highest byte that it may carry, alone and many times
 def payloads():
     for data in ALMOST_ZEROS:
         ask(62, data)
     carried = {part: [b for b in range(256) if texts.is_payload_byte(part, b)] for part in texts.PARTS}
+    assert carried[texts.QUALITY] == [*range(0x80), 0x80]
     for part in range(5):
         for data in ([], *carried.values()):
             ask(63, (part, *data))
     for part, data in carried.items():
         ask(63, (part, 0xFF, *data))
         ask(63, (part, *data, 0xFF))
+    low, high = carried[texts.QUALITY][:50], carried[texts.QUALITY][-50:]
+    for b in (0x81, 0xC0, 0xFD, 0xFE, 0xFF):
+        for data in ([b, *low, *high], [*low, b, *high], [*low, *high, b]):
+            ask(63, (texts.QUALITY, *data))
+    for data in ([0x80], [0x81], [0x80] * 100, [0x80] * 99 + [0x81], [0x80] * 50 + [0xC0] + [0x7F] * 49):
+        ask(63, (texts.QUALITY, *data))
 
 
 # Places and bytes: at the front, in the middle and at the end of the output, and over all of it; one place

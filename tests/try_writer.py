@@ -70,11 +70,15 @@ MODES = {
 }
 
 
-# The bytes that a part may carry, in rising order, over and over; a part that is none goes by quality here
-# and above
-def payload_of(part, size):
+# The bytes that a part may carry, in rising order from the one numbered `first` on, over and over; a part that
+# is none goes by quality here and above
+def payload_of(part, size, first=0):
     allowed = [b for b in range(256) if texts.is_payload_byte(part if part in texts.PARTS else QUALITY, b)]
-    return bytes(allowed[i % len(allowed)] for i in range(size))
+    return bytes(allowed[(first + i) % len(allowed)] for i in range(size))
+
+
+# Quality's highest ones, `1D` to `80`
+QUALITY_HIGH = payload_of(QUALITY, 100, 29)
 
 
 # `data` with `b` at `place`
@@ -151,28 +155,32 @@ def read_back(data, header, modes, payload, mode, noecho, answers):
     assert receiver.grid == payload.ljust(texts.GRID, b"\0")
 
 
-# One part, with all the bytes that it may carry or with zeros alone
-def through(part, echoes, size, length, wanted, mode, answers):
-    payload = payload_of(part, size) if echoes else bytes(size)
+# One part, written and read back
+def through(part, payload, length, wanted, mode, answers):
     data = usual(wanted, part, payload, length)
     read_back(data, WRITER_HEADERS[part], MODES[part], payload, mode, wanted == 80, answers)
 
 
+# With all the bytes that a part may carry, for quality in two payloads, and with zeros alone
 def parts():
-    assert len(set(payload_of(INTENSITY, 20_000))) == 225 and max(payload_of(INTENSITY, 20_000)) == 0xEE
-    assert set(payload_of(TOP, 400)) == set(range(9)) and set(payload_of(QUALITY, 100)) == set(range(0x41))
+    echoes, tops, low = (payload_of(part, texts.payload_length(part)) for part in texts.PARTS)
+    assert len(set(echoes)) == 225 and max(echoes) == 0xEE and set(tops) == set(range(9))
+    assert low == bytes(range(0x64)) and QUALITY_HIGH == bytes(range(0x1D, 0x81))
     for length in (20_190, 20_200):
-        through(INTENSITY, True, 20_000, length, 20_190, 1, [1, *(2,) * 10, 3])
+        through(INTENSITY, echoes, length, 20_190, 1, [1, *(2,) * 10, 3])
     for length in (80, 20_200):
-        through(INTENSITY, False, 20_000, length, 80, 1, [1, 3])
+        through(INTENSITY, bytes(20_000), length, 80, 1, [1, 3])
     for length in (491, 600):
-        through(TOP, True, 400, length, 491, 2, [1, 2, 3])
+        through(TOP, tops, length, 491, 2, [1, 2, 3])
     for length in (80, 600):
-        through(TOP, False, 400, length, 80, 2, [1, 3])
+        through(TOP, bytes(400), length, 80, 2, [1, 3])
     # "Applying NO ECHO to quality" is a misreading
-    for echoes in (True, False):
+    for payload in (low, QUALITY_HIGH, bytes(100)):
         for length in (191, 300):
-            through(QUALITY, echoes, 100, length, 191, 3, [1, 2, 3])
+            through(QUALITY, payload, length, 191, 3, [1, 2, 3])
+    # One value throughout: all causes, unknown alone
+    for b in (0x7F, 0x80):
+        through(QUALITY, bytes([b]) * 100, 191, 191, 3, [1, 2, 3])
 
 
 # ---- Refusals
@@ -211,13 +219,15 @@ def row_33():
     for part, size, length, zeros, forbidden in (
         (INTENSITY, 20_000, 20_190, 19_999, ((0, 0x0F), (10_000, 0xF0), (19_999, 0xEF))),
         (TOP, 400, 491, 0, ((0, 0x09), (399, 0x80))),
-        (QUALITY, 100, 191, 400, ((0, 0x41), (99, 0x80))),
+        (QUALITY, 100, 191, 400, ((0, 0x81), (50, 0x81), (99, 0x81), (0, 0xC0), (50, 0xFF), (99, 0xFF), (0, 0xFD),
+                                  (50, 0xFD), (99, 0xFE))),
     ):
+        good = QUALITY_HIGH if part == QUALITY else payload_of(part, size)
         usual(33, part, payload_of(part, size - 1), length)
         usual(33, part, payload_of(part, size + 1), length)
         usual(33, part, bytes(zeros), length)
         for place, b in forbidden:
-            usual(33, part, altered(payload_of(part, size), place, b), 20_190)
+            usual(33, part, altered(good, place, b), 20_190)
 
 
 # Quality's part is as long with a payload of all zeros

@@ -1,12 +1,14 @@
-"""01-scope.md, section "A text", as plain functions.
+"""01-scope.md, section "A text", with request #107, as plain functions.
 
-Written from that paper alone: nothing here is taken from the library or from its definitions.
+Written from these papers alone: nothing here is taken from the library or from its definitions.
 Blocks, texts and parts are bytes; lists of digits, radar codes and modes are tuples of numbers.
 A part is 1 (intensity), 2 (echo top) or 3 (quality). A text's number within its part is 0 for the
 start text, k for data text k and 11 for the end text. Where an argument names no part, text, kind,
-mode or month, a number is 0 and a test is False. What stands in quotes is 01's.
+mode or month, a number is 0 and a test is False. What stands in quotes is 01's, and after "#107:"
+that request's, whose sheet for the quality bits takes the place of 01's.
 
-Run as a program, it tries the rows of "Sample traffic" that are marked P, and 01's figures.
+Run as a program, it tries the rows of "Sample traffic" that are marked P, those of quality as #107 has
+them, and 01's figures.
 """
 
 from collections import namedtuple
@@ -265,14 +267,20 @@ def levels(b):
     return b >> 4, b & 0x0F
 
 
+# #107: "seven named causes in bits 0 to 6, and "cause unknown" in bit 7, alone. Allowed are `00` to
+# `7F`, and `80`."
+def is_quality_byte(b):
+    return b <= 0x7F or b == 0x80
+
+
 # "Data block, payload from byte 3", by part
 def is_payload_byte(part, b):
     if part == INTENSITY:  # "levels 0 to 14"
         return all(level <= 14 for level in levels(b))
     if part == TOP:  # "one mesh a byte, 0 to 8"
         return b <= 8
-    if part == QUALITY:  # "so `00` to `3F`, or `40`"
-        return b <= 0x3F or b == 0x40
+    if part == QUALITY:  # "one mesh a byte", and #107's sheet
+        return is_quality_byte(b)
     return False
 
 
@@ -521,6 +529,17 @@ def written_part(part, writer_header, modes, payload):
     return make_part(part, header, modes, payload)
 
 
+# "quality `05`" allowed; #107: "Of the samples, `40` and `41` are now both allowed, `80` is allowed, `81`
+# is not.", "no payload byte becomes `FD`, `FE` or `FF`"
+def _quality():
+    allowed = [b for b in range(256) if is_payload_byte(QUALITY, b)]
+    samples = {0x05: True, 0x40: True, 0x41: True, 0x7F: True, 0x80: True, 0x81: False}
+    assert {b: b in allowed for b in samples} == samples
+    # The causes' bits in any way, or bit 7 alone
+    assert allowed == [b for b in range(256) if not b >> 7 & 1 or b == 1 << 7] and len(allowed) == 129
+    assert not any(is_payload_byte(part, b) for part in PARTS for b in (FD, FE, FF))
+
+
 # "Sample traffic", the rows marked P; counts of codes and kinds, and lengths of parts and payloads
 def _samples():
     assert clock_bytes(9983) == bytes.fromhex("4D 7F") and clock_of(0x4D, 0x7F) == 9983
@@ -529,7 +548,6 @@ def _samples():
     assert levels(0x1E) == (1, 14)
     assert [is_payload_byte(INTENSITY, b) for b in (0xEE, 0xEF, 0xF0)] == [True, False, False]
     assert [is_payload_byte(TOP, b) for b in (0x08, 0x09)] == [True, False]
-    assert [is_payload_byte(QUALITY, b) for b in (0x05, 0x40, 0x41)] == [True, True, False]
     assert mode_byte(highest_mode((1, 2, 3))) == 0x40 and mode_byte(highest_mode((2, 1, 1, 1))) == 0x10
     lists = [bytes.fromhex(text).ljust(8, b"\0") for text in ("A3 A5", "A5 A3", "A5 A5", "A6")]
     assert [is_radar_list(radars) for radars in lists] == [True, False, False, False]
@@ -548,3 +566,4 @@ def _samples():
 
 if __name__ == "__main__":
     _samples()
+    _quality()

@@ -9,7 +9,8 @@ uint8_t likely_byte(struct numbers *n)
     static const uint8_t control[] = {0x16, 0x16, 0x16, 0x10, 0x02, 0xFD, 0xFE, 0xFF, 0x00};
     static const uint8_t inside[] = {0x10, 0x11, 0x12, 0x1A, 0x1B, 0x1F, 0x20, 0x21, 0x22, 0x2F,
                                      0x30, 0x31, 0x3F, 0x04, 0x08, 0x40, 0x2E, 0x32, 0x39, 0xCC,
-                                     0xC0, 0xC3, 0xF1, 0xA5, 0xA6, 0xB6, 0xEE, 0xEF, 0x41, 0x80};
+                                     0xC0, 0xC3, 0xF1, 0xA5, 0xA6, 0xB6, 0xEE, 0xEF, 0x41, 0x7F,
+                                     0x80, 0x81};
     return chance(n, 60) ? one_of(n, control, sizeof control) : one_of(n, inside, sizeof inside);
 }
 
@@ -156,7 +157,8 @@ static uint8_t edge_of_payload(struct numbers *n, int part)
 {
     static const uint8_t intensity[] = {0xEE, 0xEF, 0xFE, 0x0E, 0x0F, 0xE0, 0xF0, 0xFF, 0xFD, 0x1F};
     static const uint8_t top[] = {0x07, 0x08, 0x09, 0x0A, 0x10, 0x18, 0x80, 0xFE};
-    static const uint8_t quality[] = {0x3F, 0x40, 0x41, 0x42, 0x60, 0x7F, 0x80, 0xC0};
+    /* 3F, 40 and 41 lie around the last cause; from 81 on a cause is named and yet unknown. */
+    static const uint8_t quality[] = {0x3F, 0x40, 0x41, 0x7F, 0x80, 0x81, 0xC0, 0xFD, 0xFE, 0xFF};
     if (chance(n, 20))
         return any_byte(n);
     switch (part) {
@@ -166,14 +168,21 @@ static uint8_t edge_of_payload(struct numbers *n, int part)
     }
 }
 
+/* A payload byte of a data text, often its first or last. */
+static uint8_t *byte_in_payload(struct numbers *n, struct text *text)
+{
+    size_t last = block_size(text) - 1;
+    size_t at = chance(n, 20) ? AT_PAYLOAD : chance(n, 30) ? last : between(n, AT_PAYLOAD, last);
+    return block_of(text) + at;
+}
+
 static void odd_payload(struct numbers *n, struct draft *draft)
 {
     if (draft->count < 3)
         return;
     struct text *text = &draft->texts[between(n, 1, draft->count - 2)];
-    size_t last = block_size(text) - 1;
-    size_t at = chance(n, 20) ? AT_PAYLOAD : chance(n, 30) ? last : between(n, AT_PAYLOAD, last);
-    block_of(text)[at] = edge_of_payload(n, draft->part);
+    uint8_t *byte = byte_in_payload(n, text);
+    *byte = edge_of_payload(n, draft->part);
 }
 
 static void wrong_length(struct numbers *n, struct draft *draft)
@@ -215,6 +224,19 @@ void damage_field(struct numbers *n, struct draft *draft)
         mend_check(&draft->texts[i]);
     if (chance(n, 20))
         wrong_closing(n, draft);
+}
+
+/* A forbidden byte breaks its rule under any check byte; an allowed one gets
+   through under a right check byte only, and shows at a wrong one. */
+void damage_quality(struct numbers *n, struct draft *draft)
+{
+    static const uint8_t limits[] = {0x3F, 0x40, 0x41, 0x7F, 0x80, 0x81, 0xFF};
+    struct text *data = &draft->texts[1];
+    uint8_t *byte = byte_in_payload(n, data);
+    *byte = one_of(n, limits, sizeof limits);
+    mend_check(data);
+    if (chance(n, 50))
+        data->bytes[data->length - 2] ^= (uint8_t)(1u << below(n, 8));
 }
 
 /* ---- order of texts ---- */

@@ -9,6 +9,10 @@
    then a closing byte is wrong too. */
 void damage_field(struct numbers *n, struct draft *draft);
 
+/* A quality part has a byte on either side of a limit of its sheet, under a
+   right check byte or a wrong one. */
+void damage_quality(struct numbers *n, struct draft *draft);
+
 /* Whole texts lost, doubled, swapped, or taken from another part. */
 void damage_order(struct numbers *n, struct draft *draft, const struct draft *other);
 

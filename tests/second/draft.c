@@ -86,6 +86,14 @@ static void some_header(struct numbers *n, const struct habits *habits, struct d
 
 /* ---- payload ---- */
 
+/* Any byte of request #107's sheet, and often one where it turns: 7F names all
+   seven causes, 80 none of them, and 3F, 40 and 41 lie around the last one. */
+static uint8_t some_quality_byte(struct numbers *n)
+{
+    static const uint8_t turns[] = {0x3F, 0x40, 0x41, 0x7F, 0x80};
+    return chance(n, 40) ? one_of(n, turns, sizeof turns) : (uint8_t)between(n, 0x00, 0x80);
+}
+
 static uint8_t some_payload_byte(struct numbers *n, int part)
 {
     switch (part) {
@@ -94,7 +102,7 @@ static uint8_t some_payload_byte(struct numbers *n, int part)
         return (uint8_t)(high << 4 | below(n, 15));
     }
     case ECHO_TOP: return (uint8_t)below(n, 9);
-    default: return (uint8_t)below(n, 0x41);
+    default: return some_quality_byte(n);
     }
 }
 
@@ -277,6 +285,12 @@ static void write_texts(struct numbers *n, struct draft *draft)
             wish_check(n, &draft->texts[i], draft->part);
 }
 
+/* NO ECHO of a quality part: it is without effect there. */
+static bool idle_no_echo(struct numbers *n)
+{
+    return chance(n, 35);
+}
+
 /* Whole intensity parts are long: their share is small, so that the short
    parts with their many events stay frequent in a stream. */
 static void some_part(struct numbers *n, struct draft *draft)
@@ -284,7 +298,7 @@ static void some_part(struct numbers *n, struct draft *draft)
     size_t sort = below(n, 100);
     draft->part = sort < 24 ? INTENSITY : sort < 54 ? ECHO_TOP : QUALITY;
     if (draft->part == QUALITY)
-        draft->no_echo = chance(n, 35); /* without effect there */
+        draft->no_echo = idle_no_echo(n);
     else
         draft->no_echo = draft->part == INTENSITY ? sort >= 2 : chance(n, 40);
     draft->header.no_echo = draft->no_echo;
@@ -293,6 +307,16 @@ static void some_part(struct numbers *n, struct draft *draft)
 void draft_part(struct numbers *n, const struct habits *habits, struct draft *draft)
 {
     some_part(n, draft);
+    some_header(n, habits, draft);
+    some_payload(n, draft);
+    write_texts(n, draft);
+}
+
+void draft_quality(struct numbers *n, const struct habits *habits, struct draft *draft)
+{
+    draft->part = QUALITY;
+    draft->no_echo = idle_no_echo(n);
+    draft->header.no_echo = draft->no_echo;
     some_header(n, habits, draft);
     some_payload(n, draft);
     write_texts(n, draft);

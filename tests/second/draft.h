@@ -40,6 +40,7 @@ size_t block_size(const struct text *text);
 void mend_check(struct text *text);
 
 void draft_part(struct numbers *n, const struct habits *habits, struct draft *draft);
+void draft_quality(struct numbers *n, const struct habits *habits, struct draft *draft);
 
 /* A second part of the same kind and picture code, often of the same radars. */
 void draft_like(struct numbers *n, const struct habits *habits, const struct draft *model,

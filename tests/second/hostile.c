@@ -29,6 +29,17 @@ static void part_with_wrong_field(struct stage *s)
     add_draft(s->stream, &s->one);
 }
 
+/* The limits of the quality sheet are single bytes out of 256, which chance
+   would seldom meet; a quality part is short, so a few go together. */
+static void quality_at_limits(struct stage *s)
+{
+    for (size_t i = between(&s->numbers, 2, 4); i > 0; i--) {
+        draft_quality(&s->numbers, &s->habits, &s->one);
+        damage_quality(&s->numbers, &s->one);
+        add_draft(s->stream, &s->one);
+    }
+}
+
 /* The second part is a near relation or any other one. */
 static void draft_second(struct stage *s, unsigned percent_alike)
 {
@@ -177,9 +188,10 @@ struct share {
 
 /* Together 100.  About half of all parts sent come through complete. */
 static const struct share SHARES[] = {
-    {whole_part, 40},
-    {part_with_wrong_field, 17},
-    {part_with_wrong_bytes, 13},
+    {whole_part, 38},
+    {part_with_wrong_field, 16},
+    {part_with_wrong_bytes, 12},
+    {quality_at_limits, 4},
     {part_with_wrong_order, 6},
     {payload_cut_short, 5},
     {spliced_parts, 4},

@@ -64,9 +64,22 @@ static void try_times_and_payload(void)
     expect(!payload_byte_allowed(INTENSITY, 0xF0), "F0 not");
     expect(payload_byte_allowed(ECHO_TOP, 0x08), "top 08 allowed");
     expect(!payload_byte_allowed(ECHO_TOP, 0x09), "top 09 not");
+}
+
+/* Request #107: "Of the samples, 40 and 41 are now both allowed, 80 is allowed,
+   81 is not .. no payload byte becomes FD, FE or FF." */
+static void try_quality_sheet(void)
+{
     expect(payload_byte_allowed(QUALITY, 0x05), "quality 05 allowed");
     expect(payload_byte_allowed(QUALITY, 0x40), "quality 40 allowed");
-    expect(!payload_byte_allowed(QUALITY, 0x41), "quality 41 not");
+    expect(payload_byte_allowed(QUALITY, 0x41), "quality 41 allowed");
+    expect(payload_byte_allowed(QUALITY, 0x7F), "quality 7F allowed");
+    expect(payload_byte_allowed(QUALITY, 0x80), "quality 80 allowed");
+    expect(!payload_byte_allowed(QUALITY, 0x81), "quality 81 not");
+    expect(!payload_byte_allowed(QUALITY, 0xC0), "quality C0 not");
+    expect(!payload_byte_allowed(QUALITY, 0xFD), "quality FD not");
+    expect(!payload_byte_allowed(QUALITY, 0xFE), "quality FE not");
+    expect(!payload_byte_allowed(QUALITY, 0xFF), "quality FF not");
 }
 
 static void try_modes_and_radars(void)
@@ -178,18 +191,33 @@ static void try_check_byte_fd(void)
     free_bytes(&bytes);
 }
 
+/* ---- quality parts ---- */
+
+enum {
+    QUALITY_PART = 191,
+    QUALITY_PAYLOAD = 100,
+    QUALITY_FROM = SHORT_BLOCK + FRAME_BYTES + CONTROL_BYTES + AT_PAYLOAD, /* payload in the part */
+    QUALITY_CHECK = QUALITY_FROM + QUALITY_PAYLOAD + 1
+};
+
+/* The writer on a quality payload, with one header and one mode. */
+static int put_quality(uint8_t *out, const uint8_t *payload, size_t *length)
+{
+    static const struct header header = {
+        .picture = 0xF1, .clock = 9983, .time = {[5] = 1, [7] = 1}, .radars = {0xB6}}; /* 0000.01.01.00.00 */
+    static const uint8_t modes[RADARS] = {1};
+    struct writing what = {QUALITY, &header, modes, payload, QUALITY_PAYLOAD};
+    return write_part(&what, out, QUALITY_PART, length);
+}
+
 /* A quality part with NO ECHO set still has its data text. */
 static void try_quality_no_echo(void)
 {
-    static const uint8_t payload[100] = {0x40, 0x16, 0x16, 0x16, 0x10, 0x02};
-    static const uint8_t modes[RADARS] = {1};
-    uint8_t part[191];
-    struct header header = {.picture = 0xF1, .clock = 9983, .radars = {0xB6}};
-    struct writing what = {QUALITY, &header, modes, payload, sizeof payload};
+    static const uint8_t payload[QUALITY_PAYLOAD] = {0x80, 0x16, 0x16, 0x16, 0x10, 0x02};
+    uint8_t part[QUALITY_PART];
     struct bytes bytes = {0};
     size_t length;
-    header.time[5] = header.time[7] = 1; /* 0000.01.01.00.00 */
-    expect(write_part(&what, part, sizeof part, &length) == WRITTEN && length == 191, "a quality part");
+    expect(put_quality(part, payload, &length) == WRITTEN && length == QUALITY_PART, "a quality part");
     part[5 + AT_STATUS_1] |= NO_ECHO_BIT;
     part[38] ^= NO_ECHO_BIT;
     add_bytes(&bytes, part, sizeof part);
@@ -197,15 +225,91 @@ static void try_quality_no_echo(void)
     free_bytes(&bytes);
 }
 
+/* ---- every byte in a quality payload ---- */
+
+enum { MIDDLE = 50 };
+
+/* The part of zeros with this byte in the middle of its payload, under its
+   right check byte, whatever the sheet says of it. */
+static void make_quality(uint8_t *part, uint8_t byte)
+{
+    static const uint8_t zeros[QUALITY_PAYLOAD];
+    size_t length;
+    put_quality(part, zeros, &length);
+    part[QUALITY_FROM + MIDDLE] = byte;
+    part[QUALITY_CHECK] ^= byte;
+}
+
+static void try_quality_written(uint8_t byte, bool allowed, const char *what)
+{
+    uint8_t payload[QUALITY_PAYLOAD] = {[MIDDLE] = byte};
+    uint8_t out[QUALITY_PART], wanted[QUALITY_PART];
+    size_t length;
+    memset(out, 0xA5, sizeof out);
+    memset(wanted, 0xA5, sizeof wanted); /* a refusal leaves the output alone */
+    if (allowed)
+        make_quality(wanted, byte);
+    int refusal = put_quality(out, payload, &length);
+    expect(refusal == (allowed ? WRITTEN : WRONG_PAYLOAD), what);
+    expect(length == (allowed ? QUALITY_PART : 0) && memcmp(out, wanted, sizeof out) == 0, what);
+}
+
+static void try_quality_received(uint8_t byte, bool allowed, const char *what)
+{
+    uint8_t part[QUALITY_PART];
+    struct bytes bytes = {0};
+    make_quality(part, byte);
+    expect(undamaged_part(part, sizeof part) == (allowed ? QUALITY_PART : 0), what);
+    add_bytes(&bytes, part, sizeof part);
+    expect_answers(&bytes, allowed ? "40 1\n151 2\n191 3\n" : "40 1\n99 18\n159 16\n", what);
+    part[QUALITY_CHECK] ^= 0x01; /* a forbidden byte is met before the check byte */
+    add_bytes(&bytes, part, sizeof part);
+    expect_answers(&bytes, allowed ? "40 1\n150 20\n159 16\n" : "40 1\n99 18\n159 16\n", what);
+    free_bytes(&bytes);
+}
+
+/* A received part written again: nothing in it is without meaning, so it comes
+   back byte for byte. */
+static void try_quality_rewritten(uint8_t byte, const char *what)
+{
+    static struct grid grid;
+    struct receiver r;
+    uint8_t part[QUALITY_PART], out[QUALITY_PART] = {0};
+    size_t length;
+    make_quality(part, byte);
+    make_fresh(&r, &grid);
+    for (size_t i = 0; i < sizeof part; i++)
+        receive_byte(&r, &grid, part[i]);
+    struct writing again = {QUALITY, &r.header, r.modes, grid.bytes, QUALITY_PAYLOAD};
+    expect(write_part(&again, out, sizeof out, &length) == WRITTEN, what);
+    expect(memcmp(out, part, sizeof out) == 0, what);
+}
+
+/* Writer, receiver, the part judged at one go and rewriting have one sheet. */
+static void try_quality_bytes(void)
+{
+    for (unsigned byte = 0x00; byte <= 0xFF; byte++) {
+        bool allowed = byte <= 0x7F || byte == 0x80;
+        char what[40];
+        snprintf(what, sizeof what, "quality %02X in a part", byte);
+        try_quality_written((uint8_t)byte, allowed, what);
+        try_quality_received((uint8_t)byte, allowed, what);
+        if (allowed)
+            try_quality_rewritten((uint8_t)byte, what);
+    }
+}
+
 int run_samples(void)
 {
     try_times_and_payload();
+    try_quality_sheet();
     try_modes_and_radars();
     try_check_bytes();
     try_listening();
     try_openings();
     try_check_byte_fd();
     try_quality_no_echo();
+    try_quality_bytes();
     if (wrong_count == 0)
         printf("samples: %d right\n", right_count);
     return wrong_count == 0 ? 0 : 1;

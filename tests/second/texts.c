@@ -161,12 +161,20 @@ bool radars_allowed(const uint8_t radars[RADARS])
     return true;
 }
 
+/* Request #107: "The sender's sheet now has seven named causes in bits 0 to 6,
+   and 'cause unknown' in bit 7, alone.  Allowed are 00 to 7F, and 80."  Where
+   the cause is unknown none is named, so FD, FE and FF stay out of payload. */
+static bool quality_allowed(uint8_t byte)
+{
+    return (byte & CAUSE_UNKNOWN) == 0 || byte == CAUSE_UNKNOWN;
+}
+
 bool payload_byte_allowed(int part, uint8_t byte)
 {
     switch (part) {
     case INTENSITY: return (byte >> 4) <= 14 && (byte & 0x0F) <= 14;
     case ECHO_TOP: return byte <= 8;
-    default: return byte <= 0x40; /* 00 to 3F, or 40 alone */
+    default: return quality_allowed(byte);
     }
 }
 

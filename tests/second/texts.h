@@ -1,5 +1,6 @@
 /* 01, "A text": codes, kinds, check byte and the rules of blocks, texts and
-   parts.  Second model, written from 01 alone. */
+   parts; the quality bits have the sheet of request #107.  Second model,
+   written from these papers alone. */
 #ifndef SECOND_TEXTS_H
 #define SECOND_TEXTS_H
 
@@ -35,6 +36,9 @@ enum {
 };
 
 enum { NO_ECHO_BIT = 0x08, MODE_BITS = 0x54, BLOCK_END = 0xFE, TEXT_END = 0xFF };
+
+/* A quality byte: bits 0 to 6 name a cause each, this one is "cause unknown". */
+enum { CAUSE_UNKNOWN = 0x80 };
 
 extern const uint8_t OPENING[OPENING_BYTES];
 extern const uint8_t PICTURES[PICTURE_CODES];

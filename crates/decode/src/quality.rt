@@ -6,11 +6,11 @@ use crate::line::put;
 use crate::line::put_hex;
 use crate::line::put_number;
 
-// Bits 0 to 5, each by the place of its cause. Notice 49, 4(2)(d)(ウ)
-const CAUSES: [u8; 6] = [0x01, 0x02, 0x04, 0x08, 0x10, 0x20];
+// Bits 0 to 6, each by the place of its cause. Notice 49, 4(2)(d)(ウ); Request 107
+const CAUSES: [u8; 7] = [0x01, 0x02, 0x04, 0x08, 0x10, 0x20, 0x40];
 
-// What bit 6 alone says: the cause is unknown. Notice 49, 4(2)(d)(ウ)
-const UNKNOWN: u8 = 0x40;
+// What bit 7 alone says: the cause is unknown. Notice 49, 4(2)(d)(ウ); Request 107
+const UNKNOWN: u8 = 0x80;
 
 // The number of a cause, where its bit is set
 fn put_cause(out: &mut Buffer, used: usize, bit: u8, cause: usize) -> usize {
@@ -24,15 +24,15 @@ fn put_cause(out: &mut Buffer, used: usize, bit: u8, cause: usize) -> usize {
 fn put_causes(out: &mut Buffer, used: usize, value: u8) -> usize {
     let mut at = put(out, used, b" causes");
     let mut i = 0;
-    while i < 6 {
+    while i < 7 {
         at = put_cause(out, at, value & CAUSES[i], i);
         i += 1;
     }
     at
 }
 
-// What a value says. Which cause a bit is cannot be read in the notice: it goes by its number.
-// Notice 49, 4(2)(d)(ウ)
+// What a value says. Which cause a bit is no paper tells: it goes by its number.
+// Notice 49, 4(2)(d)(ウ); Request 107
 fn put_meaning(out: &mut Buffer, used: usize, value: u8) -> usize {
     if value == 0 {
         return put(out, used, b" no cause");
@@ -54,7 +54,7 @@ fn value_line(out: &mut Buffer, used: usize, value: u8, meshes: usize) -> usize 
     put_meaning(out, counted, value)
 }
 
-// The 100 meshes of a quality part, each `00` to `3F`, or `40`. Notice 49, 4(2)(d)(ウ)
+// The 100 meshes of a quality part, each `00` to `7F`, or `80`. Notice 49, 4(2)(d)(ウ); Request 107
 pub fn values(out: &mut Buffer, used: usize, payload: &[u8]) -> usize {
     let mut at = used;
     let mut value = 0;

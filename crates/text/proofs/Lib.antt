@@ -2,4 +2,5 @@
 pub mod Laws
 pub mod CheckByte
 pub mod Radars
+pub mod QualityBits
 pub mod Samples

@@ -1,5 +1,5 @@
--- 01, "Sample traffic": the rows marked P, and the sample's end text byte by byte, as one theorem about the definitions, computed by
--- the checker; dates at their limits. Assumes nothing.
+-- 01, "Sample traffic": the rows marked P, those of quality as Request 107 has them, and the sample's end text byte by byte, as one
+-- theorem about the definitions, computed by the checker; dates at their limits. Assumes nothing.
 use mathlib.Core.Path.{_≡_, refl}
 use mathlib.Core.Bool.{true, false}
 use mathlib.Core.List.{List, [], _∷_, _++_}
@@ -33,7 +33,9 @@ pub record SampleRows : Type 0 where
   pub top-09 : isPayloadByte 2 0x09 ≡ false
   pub quality-05 : isPayloadByte 3 0x05 ≡ true
   pub quality-40 : isPayloadByte 3 0x40 ≡ true
-  pub quality-41 : isPayloadByte 3 0x41 ≡ false
+  pub quality-41 : isPayloadByte 3 0x41 ≡ true
+  pub quality-80 : isPayloadByte 3 0x80 ≡ true
+  pub quality-81 : isPayloadByte 3 0x81 ≡ false
   pub modes-123 : modeByte (highest (1 ∷ 2 ∷ 3 ∷ [])) ≡ 0x40
   pub modes-2111 : modeByte (highest (2 ∷ 1 ∷ 1 ∷ 1 ∷ [])) ≡ 0x10
   pub radars-A3-A5 : isRadarList (0xA3 ∷ 0xA5 ∷ []) ≡ true
@@ -61,6 +63,8 @@ sample-rows =
       quality-05 = refl;
       quality-40 = refl;
       quality-41 = refl;
+      quality-80 = refl;
+      quality-81 = refl;
       modes-123 = refl;
       modes-2111 = refl;
       radars-A3-A5 = refl;

@@ -37,12 +37,13 @@ isIntensityByte b = leb (oddLevel b) 14 && leb (evenLevel b) 14
 unfoldable pub isTopByte : ℕ → Bool
 isTopByte b = leb b 8
 
--- Quality: one mesh a byte, `00` to `3F`, or `40`. Notice 49, 4(2)(d)(ウ), whose figure cannot be read: 01 is the rule
+-- Quality: one mesh a byte; bits 0 to 6 name causes, bit 7 is "cause unknown" and stands alone: `00` to `7F`, or `80`.
+-- Notice 49, 4(2)(d)(ウ), whose figure cannot be read: Request 107 is the rule
 unfoldable pub isQualityByte : ℕ → Bool
-isQualityByte b = leb b 0x3F || eqb b 0x40
+isQualityByte b = leb b 0x7F || eqb b 0x80
 
 -- The payload bytes of a part; none where there is no such part.
--- Notice 49, 4(1)(1-1)(d)(ウ), 4(1)(1-2)(d)(ウ), 4(2)(d)(ウ), 5(3)(3-1) and (3-2)
+-- Notice 49, 4(1)(1-1)(d)(ウ), 4(1)(1-2)(d)(ウ), 4(2)(d)(ウ), 5(3)(3-1) and (3-2); for quality Request 107
 unfoldable pub isPayloadByte : ℕ → ℕ → Bool
 isPayloadByte p b = cond (eqb p 1) (isIntensityByte b) (cond (eqb p 2) (isTopByte b) (cond (eqb p 3) (isQualityByte b) false))
 

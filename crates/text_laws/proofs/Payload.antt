@@ -2,14 +2,13 @@
 use mathlib.Core.Path.{_≡_, refl, ap}
 use mathlib.Core.List.{List, [], _∷_}
 use mathlib.Core.Logic.{_⊎_, inl, inr, ⊎-elim}
-use mathlib.Core.Bool.{true, not, _&&_, _||_}
+use mathlib.Core.Bool.{true, _&&_}
 use Prim.Native.Nat.{ℕ, _+_, _*_, _-_, _/_, _%_, _≤_, _<_}
 use native.Mathlib.Omega.{arith}
 use lib.Dec.{eqb, leb}
 use borrow.Author.Tests.{eqb-true, eqb-false, leb-true}
-use Rattle.general_laws.specs.Bytes.{bit, every}
+use Rattle.general_laws.specs.Bytes.{every}
 use Rattle.text.specs.DataBlock.{oddLevel, evenLevel, oddMesh, evenMesh, isIntensityByte, isTopByte, isQualityByte, isPayloadByte}
-use Rattle.general_laws.proofs.Computed.{same-tests}
 use Rattle.general_laws.proofs.Tests.{by-test, never, and-split, or-split}
 
 -- Payload never holds `FD`, `FE` or `FF`: its bytes are below these
@@ -27,12 +26,7 @@ payload-below p b h =
     top h = let l = leb-true b 8 h in omega arith
 
     quality : isQualityByte b ≡ true → b < 0xFD
-    quality h = ⊎-elim (λ l. omega (arith, leb-true b 0x3F l)) (λ e. omega (arith, eqb-true b 0x40 e)) (or-split (leb b 0x3F) (eqb b 0x40) h)
-
--- Quality by its bits: bit 7 is 0, and bit 6, "cause unknown", stands alone
-pub quality-bits : (b : ℕ) → b < 256 → isQualityByte b ≡ (not (bit b 7) && (not (bit b 6) || eqb b 0x40))
-unfolding isQualityByte bit
-quality-bits = same-tests 256 isQualityByte (λ b. not (bit b 7) && (not (bit b 6) || eqb b 0x40)) tt
+    quality h = ⊎-elim (λ l. omega (arith, leb-true b 0x7F l)) (λ e. omega (arith, eqb-true b 0x80 e)) (or-split (leb b 0x7F) (eqb b 0x80) h)
 
 -- Data text k has meshes 4,000 × (k − 1) + 1 to 4,000 × k, two in each of its 2,000 bytes
 pub meshes-of-text : (k i : ℕ) → 1 ≤ k → i < 2000

@@ -32,11 +32,11 @@ fn allowed(part: u8, i: usize) -> u8 {
     if part == 2 {
         return (i % 9) as u8;
     }
-    (i % 65) as u8
+    (29 + i % 100) as u8
 }
 
-// The bytes that the part may carry, over and over, where there are `echoes`; else the zeros that
-// stand there
+// Bytes that the part may carry, in rising order over and over, of quality the hundred highest (`1D` to
+// `80`, Request 107), where there are `echoes`; else the zeros that stand there
 pub fn fill_payload(part: u8, echoes: bool, payload: &mut [u8]) {
     if !echoes {
         return;

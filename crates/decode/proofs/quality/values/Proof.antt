@@ -1,4 +1,4 @@
--- Nothing has to hold from turn to turn. The measure is what is left of the values to `40`. Assumes nothing.
+-- Nothing has to hold from turn to turn. The measure is what is left of the values to `80`. Assumes nothing.
 use Prim.Native.Nat.{_-_}
 use borrow.Author.Needs.{needs}
 use Rattle.decode.proofs.quality.values.Statement.{statement}
@@ -8,7 +8,7 @@ abbrev Inv-loop : tie.InvT-loop
 Inv-loop out₀ used payload at₀ value₀ out at value = Unit {0}
 
 abbrev μ-loop : tie.MeasureT-loop
-μ-loop out₀ used payload at₀ value₀ out at value = 65 - value
+μ-loop out₀ used payload at₀ value₀ out at value = 129 - value
 
 pub values-spec : {M : Type 1} → statement M
 values-spec =
