@@ -16,9 +16,11 @@ pub mod WholeParts
 pub mod Possible
 pub mod Answers
 pub mod CallLists
+-- complete comes at a part's last byte and not before; how a part is answered
+pub mod NotBefore
+pub mod PartAnswers
 -- demand 3
 pub mod Theorem
--- complete comes at a part's last byte and not before; rows 1, 2, 11 and 15 exactly when; sample traffic
-pub mod NotBefore
+-- rows 1, 2, 11 and 15 exactly when; sample traffic
 pub mod Rows
 pub mod Samples

@@ -50,7 +50,7 @@ module _ (R : Rules) (L : RuleLaws R) where
   unfolding most
   start-most hq hk l r = quiet-append R new-control (start-quiet R L hq hk l r)
 
-  due-most : {k : ℕ} {xs : List ℕ} {c e : Held} (w : List ℕ) (p d : ℕ) → p ≢ 0 → isPicture (pictureOf c) ≡ true → k ≡ dueKind p d → isKind k ≡ true → isStart k ≡ false
+  pub due-most : {k : ℕ} {xs : List ℕ} {c e : Held} (w : List ℕ) (p d : ℕ) → p ≢ 0 → isPicture (pictureOf c) ≡ true → k ≡ dueKind p d → isKind k ≡ true → isStart k ≡ false
       → 3 + length xs ≡ long k → BlockContents R k c 3 xs e
       → let q = pictureOf c in
       AllQuiet R (mk R (TPAD ∷ w) 0 0 0 p d 0 c) (most R (block R q k xs)) (mk R (seenCheck R L q k xs) (suc (suc (long k))) k q p d (checkByte (block R q k xs)) e)

@@ -22,7 +22,7 @@ use Rattle.receiver_spec.specs.Seen.{push}
 use Rattle.receiver_spec.specs.State.{State, fresh, emptyGrid}
 use Rattle.receiver_spec.specs.Receiver.{Step, step}
 use Rattle.receiver_spec.specs.Calls.{Reply, quiet, partBegun, textTaken, partComplete, partDropped, refused, number, answered, CallOutcome, Request, byte, slice, Call, onGrid, elsewhere, ask, After, start, add, next, after, received, singly, answersOf, stateAfter, gridAfter}
-use Rattle.receiver_spec.specs.Demand3.{IsAnswer, CallMade, EndsUndamaged, WayBack, Demand3}
+use Rattle.receiver_spec.specs.Demand3.{IsAnswer, CallMade, partAnswers, EndsUndamaged, WayBack, Demand3}
 use Rattle.receiver_spec.proofs.Opening.{only-FD}
 use Rattle.receiver_spec.proofs.Machine.{Machine, Out, mk, move, run, new, block, most, text, Whole, whole}
 use Rattle.receiver_spec.proofs.Steps.{run-append}
@@ -34,6 +34,7 @@ use Rattle.receiver_spec.proofs.Instance.{Held, held, radar, machine, o
 use Rattle.text_laws.proofs.KindTable.{start-block-length}
 use Rattle.receiver_spec.proofs.BlockRules.{start-taken}
 use Rattle.receiver_spec.proofs.WholeParts.{text-same, heldOf, whole-undamaged, undamaged-whole}
+use Rattle.receiver_spec.proofs.PartAnswers.{part-said}
 use Rattle.receiver_spec.proofs.Answers.{step-told, three-complete}
 use Rattle.receiver_spec.proofs.CallLists.{wrong-grid, byte-taken, slice-taken, number-answered, answers-append, state-append, Stepped, calls-stepped, calls-sound, singly-taken}
 
@@ -255,6 +256,15 @@ module _ (calls : List Call) where
       ap (λ (m : Machine radar). m .held) (here ∙ ap (λ m. run radar m rest) end) ∙ idle-run rest seen (heldOf (u .part)) free in
       (ap (λ (c : Held). c .header) all, ap (λ (c : Held). c .modes) all, ap (λ (c : Held). c .grid) all)
 
+  part-answered : (before part : List ℕ) (u : UndamagedPart part) → received calls .taken ≡ before ++ part
+      → drop (length before + 39) (received calls .said) ≡ partAnswers (u .part)
+  part-answered before part u e =
+      let (front, tail, split, long, says) = part-said u (run radar (machine fresh emptyGrid) before) in
+      ap (drop (length before + 39)) (stepped .said ∙ ap (answersOf fresh emptyGrid) (e ∙ ap (λ t. before ++ t) split ∙ sym (append-assoc before front tail)))
+      ∙ answers-from (before ++ front) tail fresh emptyGrid (length before + 39) (omega (arith, length-append before front, long))
+      ∙ says (stateAfter fresh emptyGrid (before ++ front)) (gridAfter fresh emptyGrid (before ++ front))
+      (machine-after (before ++ front) fresh emptyGrid ∙ run-append radar (machine fresh emptyGrid) before front)
+
   never-complete : (part : List ℕ) (v : ℕ) → UndamagedPart part → v ≢ FD → AlteredTo v part (received calls .taken) → (i : ℕ) → received calls .said ! i ≢ 3
   never-complete part v u n a i e =
       by-test (ltb i (length (received calls .taken)))
@@ -378,6 +388,7 @@ demand-3 calls =
       wayBack = λ earlier later e before text rest u f. found text u earlier before rest f;
       complete = completed calls;
       held = λ earlier later e. holds earlier;
+      answered = λ earlier later e. part-answered earlier;
       completeTells = λ earlier r later e. complete-told earlier r;
       altered = never-complete calls;
     }

@@ -19,11 +19,14 @@ use Rattle.text.specs.EndBlock.{isEndBlock, modesOf, highest, noModes}
 use Rattle.text.specs.Part.{Part, textsOf, partBytes, isTextOf, inOrder, startPart, UndamagedPart, gridLength, payloadsOf, zeros, gridOf, partHeader, partModes}
 use Rattle.text.specs.declared.header.Header.{Header}
 use Rattle.general_laws.proofs.Tests.{by-test, never, and-split, and-join, by-if}
+use Rattle.text_laws.proofs.Framing.{text-length}
 use Rattle.text_laws.proofs.KindTable.{text-back, data-is-kind, end-is-kind, data-block-length, few-texts, block-least, start-block-length, end-block-length, end-not-start}
 use Rattle.text_laws.proofs.Blocks.{start-rules, DataRules, data-rules, data-keeps, EndRules, end-rules, PartRules, part-rules, part-keeps, split-3}
 use Rattle.text_laws.proofs.Parts.{data-sized, payloads-length, payload-fits, order-split, zeros-long}
 use Rattle.receiver_spec.specs.State.{emptyGrid}
-use Rattle.receiver_spec.specs.Receiver.{firstDue, nextDue, modeIsHighest}
+use Rattle.receiver_spec.specs.Receiver.{BEGUN, TAKEN, COMPLETE, firstDue, nextDue, modeIsHighest}
+use Rattle.receiver_spec.specs.Calls.{spread}
+use Rattle.receiver_spec.specs.Demand3.{dataAnswers, partAnswers}
 use Rattle.receiver_spec.proofs.Machine.{BlockContents, block, most, text, Open, begun, more, Whole, whole}
 use Rattle.receiver_spec.proofs.Instance.{Held, held, radar}
 use Rattle.receiver_spec.proofs.BlockRules.{start-taken, data-taken, end-taken, data-only}
@@ -336,21 +339,38 @@ whole-undamaged (whole {ys} {p} {d} {k} {xs} {c} {e} o hq hk g n v l r z) = go (
 
 -- ---- and back
 
-cast : {ys zs : List ℕ} {p r d f : ℕ} {c e : Held} → ys ≡ zs → p ≡ r → d ≡ f → c ≡ e → Open radar ys p d c → Open radar zs r f e
-cast {ys} {zs} {p} {r} {d} {f} {c} {e} a x b g o = rw (← a, ← x, ← b, ← g) o
+-- how the texts of an open part are answered, from the start text's last byte on; and those of a whole one
+unfoldable pub openAnswers : {ys : List ℕ} {p d : ℕ} {c : Held} → Open radar ys p d c → List ℕ
+openAnswers (begun hq hk l r) = BEGUN ∷ []
+openAnswers (more {k} {xs} {c} o hq hk g n v l r) = openAnswers o ++ spread (length (text radar (block radar (c .header .picture) k xs))) TAKEN
+
+unfoldable pub wholeAnswers : {zs : List ℕ} {e : Held} → Whole radar zs e → List ℕ
+wholeAnswers (whole {k} {xs} {c} o hq hk g n v l r z) = openAnswers o ++ spread (length (text radar (block radar (c .header .picture) k xs))) COMPLETE
+
+record OpenSaid (ys : List ℕ) (p d : ℕ) (c : Held) (answers : List ℕ) : Type 0 where
+  opens : Open radar ys p d c
+  says : openAnswers opens ≡ answers
+
+pub record WholeSaid (zs : List ℕ) (e : Held) (answers : List ℕ) : Type 0 where
+  pub is-whole : Whole radar zs e
+  pub says : wholeAnswers is-whole ≡ answers
+
+cast : {ys zs : List ℕ} {p r d f : ℕ} {c e : Held} {vs us : List ℕ} → ys ≡ zs → p ≡ r → d ≡ f → c ≡ e → vs ≡ us → OpenSaid ys p d c vs → OpenSaid zs r f e us
+cast {ys} {zs} {p} {r} {d} {f} {c} {e} {vs} {us} a x b g s o = rw (← a, ← x, ← b, ← g, ← s) o
 
 open-start : (start : List ℕ) → isStartBlock start ≡ true
-    → Open radar (textOf start) (startPart start) (dueAfter (startPart start) (noEchoOf (start ! 4)) 0) (held (headerOf start) noModes (gridWith []))
+    → OpenSaid (textOf start) (startPart start) (dueAfter (startPart start) (noEchoOf (start ! 4)) 0) (held (headerOf start) noModes (gridWith [])) (1 ∷ [])
+unfolding openAnswers
 open-start start ok =
     let r = start-rules start ok in
     let whole : start ≡ block radar q k xs = split-3 start (omega (arith, r .long)) (r .first) in
     let long : length xs ≡ 29 = omega (arith, length-drop 3 start, r .long) in
     let h = held (headerOf start) noModes emptyGrid in
     let contents = start-taken q k (radar .blank) h xs (r .picture) (r .kind) long .1 (subst (λ t. isStartBlock t ≡ true) whole ok, ap (λ t. held (headerOf t) noModes emptyGrid) whole) in
-    cast (text-same (block radar q k xs) ∙ ap textOf (sym whole)) refl
+    cast {vs = 1 ∷ []} (text-same (block radar q k xs) ∙ ap textOf (sym whole)) refl
     (first-due (startPart start) (headerOf start) ∙ ap (λ n. dueAfter (startPart start) n 0) (header-facts start .0))
-    (ap (λ g. held (headerOf start) noModes g) grid-none)
-    (begun (r .picture) (r .kind) (omega (arith, long, start-block-length k (r .kind))) contents)
+    (ap (λ g. held (headerOf start) noModes g) grid-none) refl
+    (record { opens = begun (r .picture) (r .kind) (omega (arith, long, start-block-length k (r .kind))) contents; says = refl {a = 1 ∷ []} })
   where
     q : ℕ
     q = start ! 1
@@ -362,14 +382,16 @@ open-start start ok =
     xs = drop 3 start
 
 module _ (p q : ℕ) (echo : Bool) (h : Header) (hq : h .picture ≡ q) where
-  open-data : (rest datas : List (List ℕ)) {ys : List ℕ} → inOrder q p (suc (length datas)) rest ≡ true → inOrder q p 1 datas ≡ true → length datas + length rest ≤ dataTexts p echo
-      → Open radar ys p (dueAfter p echo (length datas)) (held h noModes (gridWith datas))
-      → Open radar (ys ++ textsOf rest) p (dueAfter p echo (length datas + length rest)) (held h noModes (gridWith (datas ++ rest)))
-  unfolding textsOf
-  open-data [] datas {ys} t u l o =
-      cast (sym (append-nil ys)) refl (ap (dueAfter p echo) (sym (add-zero (length datas)))) (ap (λ d. held h noModes (gridWith d)) (sym (append-nil datas))) o
-  open-data (b ∷ rest) datas {ys} t u l o =
+  open-data : (rest datas : List (List ℕ)) {ys vs : List ℕ} → inOrder q p (suc (length datas)) rest ≡ true → inOrder q p 1 datas ≡ true → length datas + length rest ≤ dataTexts p echo
+      → OpenSaid ys p (dueAfter p echo (length datas)) (held h noModes (gridWith datas)) vs
+      → OpenSaid (ys ++ textsOf rest) p (dueAfter p echo (length datas + length rest)) (held h noModes (gridWith (datas ++ rest))) (vs ++ dataAnswers rest)
+  unfolding textsOf dataAnswers openAnswers
+  open-data [] datas {ys} {vs} t u l o =
+      cast (sym (append-nil ys)) refl (ap (dueAfter p echo) (sym (add-zero (length datas)))) (ap (λ d. held h noModes (gridWith d)) (sym (append-nil datas)))
+      (sym (append-nil vs)) o
+  open-data (b ∷ rest) datas {ys} {vs} t u l o =
       cast (append-assoc ys (textOf b) (textsOf rest)) refl (ap (dueAfter p echo) far) (ap (λ d. held h noModes (gridWith d)) (append-assoc datas (b ∷ []) rest))
+      (append-assoc vs (spread (length (textOf b)) 2) (dataAnswers rest))
       (open-data rest (datas ++ (b ∷ [])) (subst (λ n. inOrder q p (suc n) rest ≡ true) (sym long) (one .3))
       (order-snoc q p 1 datas b u (one .0) (one .1) (one .2 ∙ ap (kindOf p) shift)) (omega (arith, long)) grown)
     where
@@ -438,23 +460,27 @@ module _ (p q : ℕ) (echo : Bool) (h : Header) (hq : h .picture ≡ q) where
       due : k ≡ kindOf p (dueAfter p echo m)
       due = one .2 ∙ ap (kindOf p) (sym (rw (lt-ltb m (dataTexts p echo) missing)))
 
-      grown : Open radar (ys ++ textOf b) p (dueAfter p echo (length (datas ++ (b ∷ [])))) (held h noModes (gridWith (datas ++ (b ∷ []))))
+      bytes : text radar (block radar (h .picture) k (payloadOf b)) ≡ textOf b
+      bytes = ap (λ x. text radar (block radar x k (payloadOf b))) hq ∙ text-same (block radar q k (payloadOf b)) ∙ ap textOf (sym (whole three))
+
+      again : Open radar (ys ++ text radar (block radar (h .picture) k (payloadOf b))) p (nextDue p (textNumber k)) (held h noModes (gridWith (datas ++ (b ∷ []))))
+      again = more {xs = payloadOf b} (o .opens) (subst (λ x. isPictureCode x ≡ true) (one .1 ∙ sym hq) (r .picture)) due (data-is-kind k (r .kind)) (data-only k (r .kind) .0) (data-only k (r .kind) .1) (omega (arith, length-drop 3 b, r .long, three)) contents
+
+      grown : OpenSaid (ys ++ textOf b) p (dueAfter p echo (length (datas ++ (b ∷ [])))) (held h noModes (gridWith (datas ++ (b ∷ [])))) (vs ++ spread (length (textOf b)) 2)
       grown =
-          cast (ap (λ t. ys ++ t) (ap (λ x. text radar (block radar x k (payloadOf b))) hq ∙ text-same (block radar q k (payloadOf b)) ∙ ap textOf (sym (whole three)))) refl
-          (ap (nextDue p) number ∙ next-due p echo m missing ∙ ap (dueAfter p echo) (sym long)) refl
-          (more o (subst (λ x. isPictureCode x ≡ true) (one .1 ∙ sym hq) (r .picture)) due (data-is-kind k (r .kind)) (data-only k (r .kind) .0) (data-only k (r .kind) .1) (omega (arith, length-drop 3 b, r .long, three)) contents)
+          cast (ap (λ t. ys ++ t) bytes) refl (ap (nextDue p) number ∙ next-due p echo m missing ∙ ap (dueAfter p echo) (sym long)) refl refl
+          (record { opens = again; says = ap₂ (λ x n. x ++ spread n 2) (o .says) (ap length bytes) })
 
 order-none : (q p : ℕ) → inOrder q p 1 [] ≡ true
 unfolding inOrder
 order-none q p = refl
 
-pub undamaged-whole : {zs : List ℕ} (u : UndamagedPart zs) → Whole radar zs (heldOf (u .part))
-undamaged-whole {zs} u =
-    subst (λ t. Whole radar t (heldOf p)) (append-assoc (textOf (p .start)) (textsOf (p .datas)) (textOf (p .end)) ∙ sym (bytes-of p) ∙ sym (u .framed))
-    (subst (λ t. Whole radar ((textOf (p .start) ++ textsOf (p .datas)) ++ t) (heldOf p)) (ap (λ x. text radar (block radar x k xs)) picture ∙ text-same (block radar q k xs) ∙ ap textOf (sym split))
-    (whole {xs = xs} opened (subst (λ x. isPictureCode x ≡ true) (r .endPicture ∙ sym (header-facts (p .start) .1)) (er .picture)) (r .endKind) (end-is-kind k (er .kind)) (end-not-start k (er .kind)) (er .kind)
-    (omega (arith, long, end-block-length k (er .kind))) contents
-    (eq-mode-highest (headerOf (p .start)) (modesOf (p .end)) (header-facts (p .start) .3 ∙ r .mode))))
+pub undamaged-said : {zs : List ℕ} (u : UndamagedPart zs) → WholeSaid zs (heldOf (u .part)) (partAnswers (u .part))
+unfolding wholeAnswers
+undamaged-said {zs} u =
+    subst (λ t. WholeSaid t (heldOf p) (partAnswers p)) (append-assoc (textOf (p .start)) (textsOf (p .datas)) (textOf (p .end)) ∙ sym (bytes-of p) ∙ sym (u .framed))
+    (subst (λ t. WholeSaid ((textOf (p .start) ++ textsOf (p .datas)) ++ t) (heldOf p) (partAnswers p)) bytes
+    (record { is-whole = ended; says = ap₂ (λ x n. x ++ spread n 3) (opened .says) (ap length bytes ∙ text-length (p .end) ∙ ap (λ n. n + 8) (er .long)) }))
   where
     p : Part
     p = u .part
@@ -489,9 +515,9 @@ undamaged-whole {zs} u =
     full : dueAfter (startPart (p .start)) echo (0 + length (p .datas)) ≡ 11
     full = rw (le-ltb (0 + length (p .datas)) (dataTexts (startPart (p .start)) echo) (omega (arith, r .count)))
 
-    opened : Open radar (textOf (p .start) ++ textsOf (p .datas)) (startPart (p .start)) 11 (held (headerOf (p .start)) noModes (gridWith (p .datas)))
+    opened : OpenSaid (textOf (p .start) ++ textsOf (p .datas)) (startPart (p .start)) 11 (held (headerOf (p .start)) noModes (gridWith (p .datas))) (1 ∷ dataAnswers (p .datas))
     opened =
-        cast refl refl full refl
+        cast refl refl full refl refl
         (open-data (startPart (p .start)) q echo (headerOf (p .start)) picture (p .datas) [] (r .order) (order-none q (startPart (p .start))) (omega (arith, r .count)) (open-start (p .start) (r .start)))
 
     contents : BlockContents radar k (held (headerOf (p .start)) noModes (gridWith (p .datas))) 3 xs (heldOf p)
@@ -500,3 +526,15 @@ undamaged-whole {zs} u =
           subst₂ (λ a b. isEndBlock a b ≡ true) (sym (header-facts (p .start) .2)) split (r .end),
           ap₂ (λ m g. held (headerOf (p .start)) m g) (ap modesOf split) (grid-of p),
         )
+
+    bytes : text radar (block radar (headerOf (p .start) .picture) k xs) ≡ textOf (p .end)
+    bytes = ap (λ x. text radar (block radar x k xs)) picture ∙ text-same (block radar q k xs) ∙ ap textOf (sym split)
+
+    ended : Whole radar ((textOf (p .start) ++ textsOf (p .datas)) ++ text radar (block radar (headerOf (p .start) .picture) k xs)) (heldOf p)
+    ended =
+        whole {xs = xs} (opened .opens) (subst (λ x. isPictureCode x ≡ true) (r .endPicture ∙ sym (header-facts (p .start) .1)) (er .picture)) (r .endKind) (end-is-kind k (er .kind)) (end-not-start k (er .kind)) (er .kind)
+        (omega (arith, long, end-block-length k (er .kind))) contents
+        (eq-mode-highest (headerOf (p .start)) (modesOf (p .end)) (header-facts (p .start) .3 ∙ r .mode))
+
+pub undamaged-whole : {zs : List ℕ} (u : UndamagedPart zs) → Whole radar zs (heldOf (u .part))
+undamaged-whole u = undamaged-said u .is-whole

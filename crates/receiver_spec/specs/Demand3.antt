@@ -6,8 +6,8 @@ use mathlib.Core.Bool.{false}
 use mathlib.Core.List.{List, [], _∷_, _++_}
 use lib.ListN.{length, take, drop}
 use Rattle.general_laws.specs.Bytes.{_!_, isIn}
-use Rattle.text.specs.Text.{FD}
-use Rattle.text.specs.Part.{startPart, StartText, UndamagedPart, AlteredTo, zeros, partHeader, partModes, gridOf}
+use Rattle.text.specs.Text.{FD, textOf}
+use Rattle.text.specs.Part.{Part, startPart, StartText, UndamagedPart, AlteredTo, zeros, partHeader, partModes, gridOf}
 use Rattle.receiver_spec.specs.State.{State}
 use Rattle.receiver_spec.specs.Receiver.{step}
 use Rattle.receiver_spec.specs.Calls.{Reply, quiet, partBegun, textTaken, partComplete, partDropped, refused, number, answered, CallOutcome, Request, byte, slice, Call, onGrid, elsewhere, ask, spread, After, received, singly, answersOf, stateAfter, gridAfter}
@@ -57,6 +57,15 @@ pub record EndsUndamaged (bytes : List ℕ) : Type 0 where
   pub split : bytes ≡ before ++ part
   pub whole : UndamagedPart part
 
+-- The answers of an undamaged part from its start text's last byte on: 1; 2 at each data text's last byte; 3 at the
+-- end text's; 0 at every other byte
+unfoldable pub dataAnswers : List (List ℕ) → List ℕ
+dataAnswers [] = []
+dataAnswers (block ∷ blocks) = spread (length (textOf block)) 2 ++ dataAnswers blocks
+
+abbrev pub partAnswers : Part → List ℕ
+partAnswers p = 1 ∷ (dataAnswers (p .datas) ++ spread 40 3)
+
 -- After calls that took these bytes, an undamaged start text among them: state and grid, and the answers from that
 -- text's last byte on, are those of a fresh receiver that was given, one by one, all bytes taken from that text's
 -- first on; that last byte is answered 1
@@ -99,6 +108,9 @@ pub record Demand3 (calls : List Call) : Type 0 where
   pub held : (earlier later : List Call) → calls ≡ earlier ++ later → (before part rest : List ℕ) (u : UndamagedPart part)
       → isIn FD rest ≡ false → received earlier .taken ≡ before ++ (part ++ rest)
       → (received earlier .state .header ≡ partHeader (u .part)) × (received earlier .state .modes ≡ partModes (u .part)) × (received earlier .grid ≡ gridOf (u .part))
+  -- It was answered 1, 2 for each data text, and 3, from its start text's last byte on
+  pub answered : (earlier later : List Call) → calls ≡ earlier ++ later → (before part : List ℕ) (u : UndamagedPart part)
+      → received earlier .taken ≡ before ++ part → drop (length before + 39) (received earlier .said) ≡ partAnswers (u .part)
   -- and the call that is answered 3 tells that part's number
   pub completeTells : (earlier : List Call) (r : Request) (later : List Call) → calls ≡ earlier ++ (onGrid r ∷ later)
       → number (ask (received earlier .state) (received earlier .grid) r .reply) ≡ 3
