@@ -1,5 +1,5 @@
 -- A list that grows by one byte, or by more: tests, bytes put into a list. Assumes nothing.
-use mathlib.Core.Path.{_≡_, sym, ap, _∙_}
+use mathlib.Core.Path.{_≡_, refl, sym, ap, _∙_}
 use mathlib.Core.Bool.{Bool, _&&_, and-true, and-assoc}
 use mathlib.Core.List.{List, [], _∷_, _++_}
 use Prim.Native.Nat.{ℕ, suc, _+_, _-_, _≤_, _<_, zero}
@@ -74,3 +74,8 @@ bytes-front (suc n) (x ∷ xs) small (suc j) = bytes-front n xs (λ i. small (su
 -- all bytes from place i on
 pub rest-is : (bytes : List ℕ) (i : ℕ) → take (length bytes - i) (drop i bytes) ≡ drop i bytes
 rest-is bytes i = take-all (length bytes - i) (drop i bytes) (omega (arith, length-drop i bytes))
+
+-- a count that is not 0
+pub at-least-one : (n : ℕ) → (n ≡ 0 → ⊥) → 1 ≤ n
+at-least-one zero f = absurd (f refl)
+at-least-one (suc n) f = omega arith

@@ -14,7 +14,7 @@ use Rattle.receiver_bytes_seen.specs.Behind.{seenAfter}
 use Rattle.receiver_bytes_seen.proofs.Laws.{length-seen, seen-append, forgets}
 use Rattle.receiver_state.specs.Meaning.{stateOf, numberOf}
 use Rattle.receiver_state.specs.declared.state.State.{State}
-use Rattle.receiver_byte_call.specs.Returned.{replyOf, returned}
+use Rattle.receiver_byte_call.specs.Returned.{returned}
 use Rattle.receiver_byte_call.specs.declared.calls.CallResult.{CallResult}
 use Rattle.receiver_byte_call.proofs.Laws.{number-same}
 use Rattle.receiver_demand_3.specs.CodeCalls.{Ensured, Called, begin, more, other, outcomeAt, outcomesFrom, CodeWayBack, CodeDemand3}

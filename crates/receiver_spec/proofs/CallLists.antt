@@ -15,7 +15,7 @@ use Rattle.general_laws.proofs.Tests.{by-if}
 use Rattle.receiver_spec.specs.State.{State, fresh, emptyGrid, isPossible}
 use Rattle.receiver_spec.specs.Receiver.{step}
 use Rattle.receiver_spec.specs.Calls.{Reply, quiet, number, answered, CallOutcome, refuses, judged, byteCall, feed, sliceCall, Request, byte, slice, Call, onGrid, elsewhere, ask, spread, After, start, add, next, after, received, singly, answersOf, stateAfter, gridAfter}
-use Rattle.receiver_spec.specs.Demand3.{IsAnswer, saysNothing, SliceTaken}
+use Rattle.receiver_spec.specs.Demand3.{saysNothing, SliceTaken}
 use Rattle.receiver_spec.proofs.Answers.{step-told}
 use Rattle.receiver_spec.proofs.Possible.{Possible, possible-keeps, step-kept, fresh-possible, grid-long}
 

@@ -9,10 +9,10 @@ use Rattle.text.specs.Part.{UndamagedPart}
 use Rattle.text_laws.proofs.KindTable.{start-block-length}
 use Rattle.receiver_spec.specs.Seen.{push}
 use Rattle.receiver_spec.specs.State.{State}
-use Rattle.receiver_spec.specs.Receiver.{BEGUN, TAKEN, COMPLETE, step}
+use Rattle.receiver_spec.specs.Receiver.{step}
 use Rattle.receiver_spec.specs.Calls.{spread, answersOf}
 use Rattle.receiver_spec.specs.Demand3.{partAnswers}
-use Rattle.receiver_spec.proofs.Machine.{Machine, Out, mk, answering, atLast, move, run, AllQuiet, quiet-none, quiet-byte, block, most, text, Open, begun, more, Whole, whole}
+use Rattle.receiver_spec.proofs.Machine.{Machine, Out, mk, answering, atLast, move, run, AllQuiet, quiet-none, quiet-byte, block, most, Open, begun, more, Whole, whole}
 use Rattle.receiver_spec.proofs.WayBack.{take-last, seenCheck, start-run}
 use Rattle.receiver_spec.proofs.Completing.{open-some}
 use Rattle.receiver_spec.proofs.Instance.{Held, radar, machine, step-is-move, radar-laws}

@@ -19,7 +19,7 @@ use Rattle.receiver_spec.specs.Seen.{push, endsOpening, dueByte}
 use Rattle.receiver_spec.specs.State.{State, isPossible}
 use Rattle.receiver_spec.specs.Contents.{takesByte}
 use Rattle.receiver_spec.specs.Receiver.{Step, opened, gapByte, pictureByte, kindByte, blockByte, eorByte, checkedByte, modeIsHighest, lastByte, placedByte, step}
-use Rattle.receiver_spec.specs.Calls.{refused, byteCall, feed, sliceCall, Request, byte, slice, ask}
+use Rattle.receiver_spec.specs.Calls.{refused, byteCall, sliceCall, Request, byte, slice, ask}
 use Rattle.receiver_spec.specs.Demand3.{IsAnswer}
 use Rattle.receiver_spec.proofs.Answers.{step-told}
 use Rattle.receiver_spec.proofs.CallLists.{feed-taken}

@@ -3,7 +3,7 @@ use mathlib.Core.Path.{_≡_, refl, sym, ap, ap₂, _∙_, subst}
 use mathlib.Core.Logic.{_≢_, _↔_}
 use mathlib.Core.Bool.{true, false}
 use mathlib.Core.List.{List, [], _∷_, _++_, append-assoc, append-nil, map}
-use Prim.Native.Nat.{ℕ, zero, suc, _+_, _-_, _≤_}
+use Prim.Native.Nat.{ℕ, suc, _+_, _-_, _≤_}
 use native.Mathlib.Omega.{arith}
 use lib.ListN.{length, getD, take, drop, length-append, length-drop, List·getD-eq-default}
 use lib.Dec.{eqb, ltb}
@@ -16,6 +16,7 @@ use Rattle.text.specs.StartBlock.{isStartBlock, headerOf}
 use Rattle.text.specs.Part.{startPart, StartText, UndamagedPart, AlteredTo, zeros, partHeader, partModes, gridOf}
 use Rattle.text.specs.EndBlock.{noModes}
 use Rattle.general_laws.proofs.Tests.{by-test, neither}
+use Rattle.general_laws.proofs.Lists.{at-least-one}
 use Rattle.text_laws.proofs.Parts.{start-byte}
 use Rattle.text_laws.proofs.Blocks.{StartRules, start-rules, split-3}
 use Rattle.receiver_spec.specs.Seen.{push}
@@ -24,7 +25,7 @@ use Rattle.receiver_spec.specs.Receiver.{Step, step}
 use Rattle.receiver_spec.specs.Calls.{Reply, quiet, partBegun, textTaken, partComplete, partDropped, refused, number, answered, CallOutcome, Request, byte, slice, Call, onGrid, elsewhere, ask, After, start, add, next, after, received, singly, answersOf, stateAfter, gridAfter}
 use Rattle.receiver_spec.specs.Demand3.{IsAnswer, CallMade, partAnswers, EndsUndamaged, WayBack, Demand3}
 use Rattle.receiver_spec.proofs.Opening.{only-FD}
-use Rattle.receiver_spec.proofs.Machine.{Machine, Out, mk, move, run, new, block, most, text, Whole, whole}
+use Rattle.receiver_spec.proofs.Machine.{Machine, Out, mk, move, run, new, BlockContents, block, most, text, Whole, whole}
 use Rattle.receiver_spec.proofs.Steps.{run-append}
 use Rattle.receiver_spec.proofs.WayBack.{start-run, way-back}
 use Rattle.receiver_spec.proofs.Completing.{part-open}
@@ -123,12 +124,16 @@ module _ (t : List ℕ) (u : StartText t) where
   unfolding front
   text-is = u .framed ∙ ap textOf split ∙ sym (text-same (block radar q k xs))
 
+  long : length xs ≡ 29
+  long = omega (arith, length-drop 3 b, rules .long)
+
+  contents : BlockContents radar k (radar .begin q (radar .blank)) 3 xs (held (headerOf (block radar q k xs)) noModes emptyGrid)
+  contents = start-taken q k (radar .blank) (held (headerOf (block radar q k xs)) noModes emptyGrid) xs (rules .picture) (rules .kind) long .1 (subst (λ y. isStartBlock y ≡ true) split (u .rules), refl)
+
   -- it is answered 1 at its last byte
   begins : (m : Machine radar) → move radar (run radar m front) TPAD .answer ≡ 1
   unfolding front
   begins m =
-      let long : length xs ≡ 29 = omega (arith, length-drop 3 b, rules .long) in
-      let contents = start-taken q k (radar .blank) (held (headerOf (block radar q k xs)) noModes emptyGrid) xs (rules .picture) (rules .kind) long .1 (subst (λ y. isStartBlock y ≡ true) split (u .rules), refl) in
       ap (λ (o : Out radar). o .answer)
       (start-run radar radar-laws (rules .picture) (rules .kind) (omega (arith, long, start-block-length k (rules .kind))) contents m)
 
@@ -136,8 +141,6 @@ module _ (t : List ℕ) (u : StartText t) where
   same-move : (m n : Machine radar) → move radar (run radar m front) TPAD ≡ move radar (run radar n front) TPAD
   unfolding front
   same-move m n =
-      let long : length xs ≡ 29 = omega (arith, length-drop 3 b, rules .long) in
-      let contents = start-taken q k (radar .blank) (held (headerOf (block radar q k xs)) noModes emptyGrid) xs (rules .picture) (rules .kind) long .1 (subst (λ y. isStartBlock y ≡ true) split (u .rules), refl) in
       way-back radar radar-laws (rules .picture) (rules .kind) (omega (arith, long, start-block-length k (rules .kind))) contents m n
 
   same-run : (m n : Machine radar) (rest : List ℕ) → run radar m (t ++ rest) ≡ run radar n (t ++ rest)
@@ -359,10 +362,6 @@ complete-tells calls (slice bytes) p h before part u e =
     ∙ ap (λ (s : State). s .part) (sym (state-append (a .taken) (take n bytes) fresh emptyGrid))
     ∙ open-before (a .taken ++ take n bytes) (getD bytes n 0) before part u taken
   where
-    at-least-one : (n : ℕ) → (n ≡ 0 → ⊥) → 1 ≤ n
-    at-least-one zero f = absurd (f refl)
-    at-least-one (suc n) f = omega arith
-
     one-more : (n : ℕ) → 1 ≤ n → n ≡ suc (n - 1)
     one-more n l = omega arith
 
@@ -388,7 +387,7 @@ demand-3 calls =
       wayBack = λ earlier later e before text rest u f. found text u earlier before rest f;
       complete = completed calls;
       held = λ earlier later e. holds earlier;
-      answered = λ earlier later e. part-answered earlier;
+      partAnswered = λ earlier later e. part-answered earlier;
       completeTells = λ earlier r later e. complete-told earlier r;
       altered = never-complete calls;
     }

@@ -109,7 +109,7 @@ pub record Demand3 (calls : List Call) : Type 0 where
       → isIn FD rest ≡ false → received earlier .taken ≡ before ++ (part ++ rest)
       → (received earlier .state .header ≡ partHeader (u .part)) × (received earlier .state .modes ≡ partModes (u .part)) × (received earlier .grid ≡ gridOf (u .part))
   -- It was answered 1, 2 for each data text, and 3, from its start text's last byte on
-  pub answered : (earlier later : List Call) → calls ≡ earlier ++ later → (before part : List ℕ) (u : UndamagedPart part)
+  pub partAnswered : (earlier later : List Call) → calls ≡ earlier ++ later → (before part : List ℕ) (u : UndamagedPart part)
       → received earlier .taken ≡ before ++ part → drop (length before + 39) (received earlier .said) ≡ partAnswers (u .part)
   -- and the call that is answered 3 tells that part's number
   pub completeTells : (earlier : List Call) (r : Request) (later : List Call) → calls ≡ earlier ++ (onGrid r ∷ later)

@@ -14,14 +14,14 @@ use Rattle.service_levels.specs.Meshes.{levelOf, countTo}
 
 -- two meshes a byte
 module _ (grid : List ℕ) (i : ℕ) where
-  odd : levelOf grid (suc (2 * i)) ≡ oddLevel (grid ! i)
+  pub odd : levelOf grid (suc (2 * i)) ≡ oddLevel (grid ! i)
   unfolding levelOf
   odd =
       let r : suc (2 * i) % 2 ≡ 1 = omega arith in
       let q : (suc (2 * i) - 1) / 2 ≡ i = omega arith in
       rw (eq-eqb (suc (2 * i) % 2) 1 r, q)
 
-  even : levelOf grid (suc (suc (2 * i))) ≡ evenLevel (grid ! i)
+  pub even : levelOf grid (suc (suc (2 * i))) ≡ evenLevel (grid ! i)
   unfolding levelOf
   even =
       let q : (suc (suc (2 * i)) - 1) / 2 ≡ i = omega arith in

@@ -3,32 +3,30 @@
 use mathlib.Core.Path.{_≡_, ap, _∙_}
 use mathlib.Core.Bool.{true}
 use mathlib.Core.List.{List, _∷_, _++_}
-use Prim.Native.Nat.{ℕ, suc, _+_, _*_, _-_, _<_, _/_, _%_}
+use Prim.Native.Nat.{ℕ, suc, _+_, _*_, _-_, _<_}
 use native.Mathlib.Omega.{arith}
 use lib.ListN.{length}
-use borrow.Author.Tests.{eq-eqb, ne-eqb}
 use Rattle.general_laws.specs.Bytes.{_!_}
 use Rattle.text.specs.Kinds.{dataBlockLength}
 use Rattle.text.specs.DataBlock.{oddLevel, evenLevel, oddMesh, evenMesh, payloadOf}
 use Rattle.text.specs.Part.{Part, startPart, isPart, gridOf}
-use Rattle.text_laws.proofs.Payload.{grid-byte}
 use Rattle.text_laws.proofs.Parts.{grid-place}
 use Rattle.service_levels.specs.Meshes.{levelOf}
+use Rattle.service_levels.proofs.Counting.{odd, even}
 
 -- by its place in the grid
 module _ (grid : List ℕ) (k i : ℕ) where
   odd-level : levelOf grid (oddMesh (suc k) i) ≡ oddLevel (grid ! (2000 * k + i))
-  unfolding levelOf oddMesh
+  unfolding oddMesh
   odd-level =
-      let r : (4000 * (suc k - 1) + (2 * i + 1)) % 2 ≡ 1 = omega arith in
-      let q : (4000 * (suc k - 1) + (2 * i + 1) - 1) / 2 ≡ 2000 * k + i = omega arith in
-      rw (eq-eqb ((4000 * (suc k - 1) + (2 * i + 1)) % 2) 1 r, q)
+      let here : 4000 * (suc k - 1) + (2 * i + 1) ≡ suc (2 * (2000 * k + i)) = omega arith in
+      ap (levelOf grid) here ∙ odd grid (2000 * k + i)
 
   even-level : levelOf grid (evenMesh (suc k) i) ≡ evenLevel (grid ! (2000 * k + i))
-  unfolding levelOf evenMesh
+  unfolding evenMesh
   even-level =
-      let q : (4000 * (suc k - 1) + (2 * i + 2) - 1) / 2 ≡ 2000 * k + i = omega arith in
-      rw (ne-eqb ((4000 * (suc k - 1) + (2 * i + 2)) % 2) 1 (λ e. omega arith), q)
+      let here : 4000 * (suc k - 1) + (2 * i + 2) ≡ suc (suc (2 * (2000 * k + i))) = omega arith in
+      ap (levelOf grid) here ∙ even grid (2000 * k + i)
 
 -- by the intensity part's data text and the byte of its payload
 pub text-levels : (p : Part) → isPart p ≡ true → startPart (p .start) ≡ 1

@@ -1,11 +1,12 @@
 -- Complete is rewritten, of calls: what a call answered 3 returned and left is handed to the writer. Assumes nothing.
 use mathlib.Core.Path.{_≡_, refl, sym, ap, ap₂, _∙_}
 use mathlib.Core.List.{List, [], _∷_, _++_, append-assoc}
-use Prim.Native.Nat.{ℕ, zero, suc, _+_, _-_, _≤_}
+use Prim.Native.Nat.{ℕ, suc, _+_, _-_, _≤_}
 use native.Mathlib.Omega.{arith}
 use lib.ListN.{length, getD, take, length-append}
 use lib.Seq.{take-suc, length-take-le, getD-append-add}
 use Rattle.general_laws.specs.Bytes.{_!_}
+use Rattle.general_laws.proofs.Lists.{at-least-one}
 use Rattle.text.specs.Kinds.{payloadLength}
 use Rattle.text.specs.Part.{UndamagedPart, partHeader, partModes}
 use Rattle.text.specs.WriterInput.{writerHeaderOf}
@@ -21,10 +22,6 @@ use Rattle.writer_spec.proofs.Rewriting.{rewritten}
 
 one-more : (n : ℕ) → 1 ≤ n → suc (n - 1) ≡ n
 one-more n l = omega arith
-
-at-least-one : (n : ℕ) → (n ≡ 0 → ⊥) → 1 ≤ n
-at-least-one zero f = absurd (f refl)
-at-least-one (suc n) f = omega arith
 
 module _ (calls : List Call) (r : Request) (complete : number (ask (received calls .state) (received calls .grid) r .reply) ≡ 3) where
   abbrev a : After
