@@ -9,15 +9,17 @@ into a temporary folder with $CC (else cc).  For seed, seed + 1, ... until the
 time is up a stream is made, and many short ones are cut from it (0 to 300
 bytes, at any place).  On each stream the complete outputs are compared:
 
-    listen         from a file, and through a pipe in pieces   second answers
-    try_byte_call  from a file                                 second totals
-    try_traffic    from a file                                 second traffic
-    resend         from a file                                 second resend
-    decode         from a file                                 second traffic, laid out by decode.py
+    listen          from a file, and through a pipe in pieces   second answers
+    try_byte_call   from a file                                 second totals
+    try_traffic     from a file                                 second traffic
+    resend          from a file                                 second resend
+    decode          from a file                                 second traffic, laid out by decode.py
+    try_bytes_left  from a file                                 second left
 
 The model is held against itself too: its answers 3 must stand exactly where
 01's definition of an undamaged part, read without a receiver, has a part end
-(`second parts`), and 01's samples must come out right (`second samples`).
+(`second parts`), and 01's samples must come out right and bytes left count down
+to each text's end (`second samples`).
 
 The first difference ends the run with status 1; it is printed with program,
 seed and place, and the stream is kept in a file that is named.  Otherwise the
@@ -28,11 +30,12 @@ The fixed corpus of a program, kept beside its source, is made by
     second generate SEED LENGTH > crates/try_traffic/stdin
     second traffic < crates/try_traffic/stdin > crates/try_traffic/stdout
 
-(and the same with `resend` for crates/resend), or in one step by
+(and the same with `resend` for crates/resend and `left` for crates/try_bytes_left),
+or in one step by
 
     python3 tests/differential.py --corpus SEED LENGTH crates/try_traffic
 
-where the folder's name, try_traffic or resend, chooses the program.
+where the folder's name, try_traffic, resend or try_bytes_left, chooses the program.
 """
 
 import argparse
@@ -54,7 +57,8 @@ sys.path.insert(0, str(HERE))
 import decode
 
 MODEL_OF = {"listen": "answers", "try_byte_call": "totals", "try_traffic": "traffic", "resend": "resend",
-            "decode": "traffic"}
+            "decode": "traffic", "try_bytes_left": "left"}
+CORPORA = ("try_traffic", "resend", "try_bytes_left")  # the programs that --corpus serves
 KIND_NAMES = {1: "intensity", 2: "echo top", 3: "quality"}
 RUN_TIMEOUT = 120  # seconds for one run of a program: far above what any needs
 SHORT_STREAMS = 12  # cut from each long one
@@ -319,8 +323,8 @@ def chosen_programs(options):
 def write_corpus(model, seed, length, folder):
     """The fixed input of a program and the output that the model expects."""
     folder = Path(folder)
-    if folder.name not in ("try_traffic", "resend") or not folder.is_dir():
-        fail(f"{folder} is not a folder named try_traffic or resend")
+    if folder.name not in CORPORA or not folder.is_dir():
+        fail(f"{folder} is not a folder named {', '.join(CORPORA[:-1])} or {CORPORA[-1]}")
     (folder / "stdin").write_bytes(run_model([model, "generate", seed, length]))
     (folder / "stdout").write_bytes(run_model([model, MODEL_OF[folder.name]], folder / "stdin"))
 

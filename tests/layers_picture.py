@@ -227,21 +227,30 @@ def line(arrow, arrows, tops):
     return f'  <path class="use" d="{way}" marker-end="url(#tip)"/>'
 
 
+# Boxes from left to right from here on, in as many rows as they need, and the place behind the last of the longest row
+def laid(names, left):
+    spots, row, right = [], 0, left + 10
+    for spot in (Spot(name, 0) for name in names):
+        if right + 2 * spot.half() > WIDTH - EDGE - 10:
+            row, right = row + 1, left + 10
+        spot.row, spot.x = row, right + spot.half()
+        right = spot.x + spot.half() + 10
+        spots.append(spot)
+    return spots, max(spot.x + spot.half() for spot in spots) + 10
+
+
 def programs(names):
-    """Those for people and those for the gate, each in a row and a band of its own."""
-    left = EDGE
-    for title, gate in [("programs for people", False),
-                        ("programs for the gate (no arrows are drawn from programs)", True)]:
-        right, boxes = left + 10, []
-        for spot in (Spot(name, 0) for name in names if name.startswith("try_") == gate):
-            spot.x = right + spot.half()
-            right = spot.x + spot.half() + 10
-            boxes += drawn(spot, EDGE + 34)
-        if right > WIDTH - EDGE:
-            sys.exit("too many for one row: " + ", ".join(names))
-        right = WIDTH - EDGE if gate else max(right, left + 170)
-        yield from [band(left, EDGE, right - left, BOX + 46, PROGRAM), words("h", left + 10, EDGE + 22, title), *boxes]
-        left = right + 8
+    """Those for people and those for the gate, each in a band of its own; the height of both, and the drawing."""
+    people, right = laid([name for name in names if not name.startswith("try_")], EDGE)
+    right = max(right, EDGE + 170)
+    gate, _ = laid([name for name in names if name.startswith("try_")], right + 8)
+    height = 46 + BOX + (BOX + 8) * max(spot.row for spot in people + gate)
+    parts = []
+    for title, spots, left, end in [("programs for people", people, EDGE, right),
+                                    ("programs for the gate (no arrows are drawn from programs)", gate, right + 8, WIDTH - EDGE)]:
+        parts += [band(left, EDGE, end - left, height, PROGRAM), words("h", left + 10, EDGE + 22, title)]
+        parts += [part for spot in spots for part in drawn(spot, EDGE + 34 + (BOX + 8) * spot.row)]
+    return height, parts
 
 
 def main():
@@ -254,10 +263,11 @@ def main():
         if any(spot.x < spot.bounds()[0] - 0.1 for spot in row):
             sys.exit("too many for one row: " + ", ".join(spot.text for spot in row if spot.text))
     steps = [BOX + (GAP if one == other else 2 * PAD + 8) for one, other in pairwise(layers)]
-    tops = [*accumulate(steps[::-1], initial=EDGE + BOX + 54 + PAD)][::-1]
+    above, drawn_programs = programs([crate for crate in crates if layer_of(crate) == PROGRAM])
+    tops = [*accumulate(steps[::-1], initial=EDGE + above + 8 + PAD)][::-1]
     height = tops[0] + BOX + PAD + 40
     parts = [HEAD.replace("WIDTH", str(WIDTH)).replace("HEIGHT", str(height))]
-    parts += [*programs([crate for crate in crates if layer_of(crate) == PROGRAM]), *bands(layers, tops)]
+    parts += [*drawn_programs, *bands(layers, tops)]
     parts += [line(arrow, arrows, tops) for arrow in arrows]
     parts += [part for row in rows for spot in row if spot.text for part in drawn(spot, tops[spot.row])]
     parts += [words("s", EDGE + 10, height - 16, NOTE), "</svg>", ""]

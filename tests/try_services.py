@@ -2,8 +2,8 @@
 
     python3 tests/try_services.py > crates/try_services/stdout
 
-They are those of the model of 01's services, tests/model/services.py. The samples and calls stand here and
-in the program, crates/try_services/src. A sum is Adler-32, begun at 0.
+They are those of the model of 01's services with Request 106, tests/model/services.py. The samples and calls
+stand here and in the program, crates/try_services/src. A sum is Adler-32, begun at 0.
 
     grid LENGTH SUM                     a grid, which the lines below it are about
     mesh NUMBER level LEVEL             the level of a mesh
@@ -17,8 +17,9 @@ in the program, crates/try_services/src. A sum is Adler-32, begun at 0.
                                         that part with one byte altered, with a byte before it, with a byte
                                         behind it, without its last byte, and no byte of it
     text K LENGTH SUM                   the payload of data text K of the bytes in the line above
-    taken TAKEN PLACE left BYTES        bytes left after so many bytes of an echo top part, where the state
-                                        has this place
+    taken TAKEN PLACE left BYTES        bytes left after so many bytes of the part in the heading above, which
+                                        a fresh receiver is given byte by byte, where the state has this
+                                        place; with 0 bytes taken, of a fresh receiver
     state PLACE KIND PICTURE PART DUE CHECK SEEN-COUNT left BYTES
                                         bytes left in a state of these numbers
 
@@ -36,7 +37,7 @@ import services
 import texts
 from receiver import Receiver
 from services import Refused
-from texts import CONTROL, GRID, INTENSITY, QUALITY, TOP, WriterHeader
+from texts import CONTROL, FF, GRID, INTENSITY, QUALITY, TOP, WriterHeader
 
 LINES = []
 
@@ -241,32 +242,49 @@ def payloads():
 
 # ---- Bytes left
 
-# Bytes taken up to the end of each text of an echo top part, with the bytes taken before the text and its answer
-TEXTS = {40: (0, 1), 451: (40, 2), 491: (451, 3)}
-# The first three places, two within, and the last three of a text with a block of 32 bytes and of one with 403
-SHOWN = {1, 2, 3, 17, 200, 32, 33, 34, 403, 404, 405}
+# Bytes taken up to the end of each text of a part, by hand: start text, data texts, end text
+ENDS = {
+    INTENSITY: (40, *(40 + 2_011 * k for k in range(1, 11)), 20_190),
+    TOP: (40, 451, 491),
+    QUALITY: (40, 151, 191),
+}
+# The first three places, one within, and the last three of a text with a block of 32 bytes, 103, 403 and 2,003
+SHOWN = {1, 2, 3, 17} | {32, 33, 34} | {103, 104, 105} | {403, 404, 405} | {2003, 2004, 2005}
 
 
-# By hand: place and bytes left after so many bytes. The five control bytes stand between texts
-def by_hand(taken):
-    end = min(e for e in TEXTS if taken <= e)
-    place = 0 if taken == end else max(0, taken - TEXTS[end][0] - 5)
-    if place == 0:
-        return 0, 0
-    return place, 2006 - place if place < 3 else end - taken
+# By hand: answer, place and bytes left after so many bytes of a part whose texts end so. The five control bytes
+# stand between texts, and the kind is read at place 3
+def by_hand(ends, taken):
+    before = [end for end in ends if end < taken]
+    end = ends[len(before)]
+    if taken == end:
+        return 1 if not before else 3 if end == ends[-1] else 2, 0, 0
+    place = max(0, taken - max(before, default=0) - 5)
+    return 0, place, end - taken if place >= 3 else 0
 
 
-# After each byte that is answered, and at places that are shown
+# Of the three parts, after each byte that is answered and at places that are shown; by hand after each byte
 def left():
-    receiver = Receiver()
-    answer(("taken", 0, 0), "left", services.bytes_left(receiver), 0)
-    for taken, b in enumerate(made(TOP), 1):
-        said = receiver.byte(b)
-        place, wanted = by_hand(taken)
-        assert said == TEXTS.get(taken, (0, 0))[1] and receiver.place == place
-        assert services.bytes_left(receiver) == wanted
-        if said != 0 or place in SHOWN:
-            answer(("taken", taken, place), "left", services.bytes_left(receiver), wanted)
+    answer(("taken", 0, 0), "left", services.bytes_left(Receiver()), 0)
+    last = []
+    for part, ends in ENDS.items():
+        data = made(part)
+        assert len(data) == ends[-1]
+        line("part", part, len(data), adler(data))
+        receiver = Receiver()
+        for taken, b in enumerate(data, 1):
+            # The figure 1 stands right before each text's `FF`, and nowhere else
+            assert (services.bytes_left(receiver) == 1) == (taken in ends)
+            if taken in ends:
+                assert b == FF
+                last.append(receiver.kind)
+            said = receiver.byte(b)
+            wanted_said, place, wanted = by_hand(ends, taken)
+            assert said == wanted_said and receiver.place == place
+            assert services.bytes_left(receiver) == wanted
+            if said != 0 or place in SHOWN:
+                answer(("taken", taken, place), "left", services.bytes_left(receiver), wanted)
+    assert bytes(last) == bytes.fromhex("10 11 12 13 14 15 16 17 18 19 1A 1F 20 21 2F 30 31 3F")
 
 
 # Place, kind, picture code, part, due text, check byte, count of the bytes seen, and bytes left by hand
@@ -275,8 +293,25 @@ STATES = [
     (3, 0x11, 0xCC, 1, 1, 0, 5, 2_003),
     (1000, 0x15, 0xCC, 1, 5, 0, 5, 1_006),
     (2005, 0x1A, 0xCC, 1, 10, 0, 5, 1),
+    # Before the kind is read, with no part open and with one
+    (1, 0, 0, 0, 0, 0, 5, 0),
+    (2, 0, 0xCC, 0, 0, 0, 5, 0),
+    (2, 0, 0xCC, 1, 3, 0, 5, 0),
+    # The other lengths: a start text before its `FF`, another before its `FE`, an end text with its kind just
+    # read, data of echo top and of quality before their `FE` and their `FF`
+    (34, 0x10, 0xCC, 0, 0, 0, 5, 1),
+    (32, 0x30, 0xCC, 0, 0, 0, 5, 3),
+    (3, 0x1F, 0xCC, 1, 11, 0, 5, 32),
+    (403, 0x21, 0xCC, 2, 1, 0, 5, 3),
+    (405, 0x21, 0xCC, 2, 1, 0, 5, 1),
+    (103, 0x31, 0xCC, 3, 1, 0, 5, 3),
+    (105, 0x31, 0xCC, 3, 1, 0, 5, 1),
+    # Between texts: with a part open, and with none
+    (0, 0, 0, 1, 3, 0, 5, 0),
+    (0, 0, 0, 0, 0, 0, 5, 0),
     # Not possible: past a text's last place, place 3 with no kind, a picture code at place 0, a data kind with
-    # no part open, an end kind where data is due, six bytes seen
+    # no part open, an end kind where data is due, six bytes seen; past the last place of quality's data and of
+    # echo top's
     (2006, 0x1A, 0xCC, 1, 10, 0, 5, Refused(2)),
     (35, 0x10, 0xCC, 0, 0, 0, 5, Refused(2)),
     (65_535, 0x10, 0xCC, 0, 0, 0, 5, Refused(2)),
@@ -285,6 +320,8 @@ STATES = [
     (3, 0x11, 0xCC, 0, 0, 0, 5, Refused(2)),
     (3, 0x2F, 0xCC, 2, 1, 0, 5, Refused(2)),
     (0, 0, 0, 0, 0, 0, 6, Refused(2)),
+    (106, 0x31, 0xCC, 3, 1, 0, 5, Refused(2)),
+    (406, 0x21, 0xCC, 2, 1, 0, 5, Refused(2)),
 ]
 
 

@@ -1,11 +1,12 @@
-"""01-scope.md, section "Services", as plain functions.
+"""01-scope.md, section "Services", with Request 106, as plain functions.
 
-Written from that paper alone, on texts.py and receiver.py, the models of its sections "A text" and "The
-receiver": nothing here is taken from the library or from its definitions. A grid is bytes; a mesh number,
-a level and a clock are numbers. A service gives its value, or `Refused` with the row of 01's table: "A
-service's refusal carries no value." What stands in quotes is 01's.
+Written from these papers alone, on texts.py and receiver.py, the models of 01's sections "A text" (with
+Request 107) and "The receiver": nothing here is taken from the library or from its definitions. A grid is
+bytes; a mesh number, a level and a clock are numbers. A service gives its value, or `Refused` with the row of
+01's table: "A service's refusal carries no value." What stands in quotes is 01's, and after "Request 106:"
+that request's, whose bytes left take the place of what 01 leaves free.
 
-Run as a program, it tries what 01's figures settle by hand.
+Run as a program, it tries what the papers' figures settle by hand.
 """
 
 import sys
@@ -13,8 +14,8 @@ from collections import namedtuple
 
 sys.dont_write_bytecode = True
 import texts
-from receiver import Receiver
-from texts import GRID, INTENSITY
+from receiver import SAMPLE_START, Receiver
+from texts import CONTROL, GRID, INTENSITY
 
 Refused = namedtuple("Refused", "row")
 
@@ -22,8 +23,6 @@ Refused = namedtuple("Refused", "row")
 MESHES = range(1, 40_001)
 # "levels 0 to 14"
 LEVELS = range(15)
-# The longest text: five control bytes, a block of 2,003, and three bytes
-LONGEST = 2_011
 
 
 # ---- Grids
@@ -89,28 +88,16 @@ def text_payload(data, k):
 
 # ---- Bytes left in the text under way
 
-# What 01 leaves free: "between the true remainder, the `FF` included, and 2,011 (between 0 and 2,011 before
-# the kind is read); with place 0 it is 0, and an impossible state gives 2"
-def bounds_of_left(receiver):
+# "an impossible state gives 2". Request 106: "Where the kind has been read and a text is under way, the number
+# is from now on exactly the bytes that an undamaged text still has to come, the `FF` included. Before the kind
+# is read, and at place 0, it is 0."
+def bytes_left(receiver):
     if receiver.refusal() != 0:
         return Refused(2)
-    if receiver.place == 0:
-        return 0, 0
-    if receiver.kind == 0:
-        return 0, LONGEST
-    return texts.block_length(receiver.kind) + 3 - receiver.place, LONGEST
-
-
-# What the library chooses: the true remainder once the kind is read, and before that what would be left of
-# the longest text, whose block and three bytes are 2,006
-def bytes_left(receiver):
-    bounds = bounds_of_left(receiver)
-    if isinstance(bounds, Refused):
-        return bounds
-    least, most = bounds
-    left = 2_006 - receiver.place if receiver.place != 0 and receiver.kind == 0 else least
-    assert least <= left <= most
-    return left
+    if receiver.place == 0 or receiver.kind == 0:
+        return 0
+    # The five control bytes came before the `FD`, and place is "the count of bytes taken from `FD` on"
+    return texts.text_length(receiver.kind) - (len(CONTROL) + receiver.place)
 
 
 # Levels, counts and rows of the smallest grids that show them
@@ -146,16 +133,27 @@ def _payloads():
         assert text_payload(bytes_given, 1) == b""
 
 
-# Along a start text of 40 bytes, whose block has 32
+# Along a start text of 40 bytes: 0 up to and with the picture code, and from the kind on, which is the eighth
+# byte, one fewer with each, down to 1 before the `FF` and 0 after it
 def _left():
     receiver = Receiver()
     assert bytes_left(receiver) == 0
     left = []
-    for b in texts.OPENING + b"\xCC\x10\x00":
+    for b in SAMPLE_START:
         receiver.byte(b)
         left.append(bytes_left(receiver))
-    assert left == [0, 0, 0, 0, 0, 2005, 2004, 40 - 8, 40 - 9]
-    receiver.place = 35
+    assert left == [0] * 7 + list(range(32, -1, -1))
+    # Where the kind was just read, the block's bytes but three and the three behind it are to come; the last
+    # place is two behind the block, and past it the state is not possible
+    receiver.picture = 0xCC
+    for part, due, kind, block in ((0, 0, 0x10, 32), (1, 1, 0x11, 2003), (1, 10, 0x1A, 2003), (1, 11, 0x1F, 32),
+                                   (2, 1, 0x21, 403), (2, 11, 0x2F, 32), (3, 1, 0x31, 103), (3, 11, 0x3F, 32)):
+        receiver.part, receiver.due, receiver.kind = part, due, kind
+        for place, wanted in ((3, block), (block + 2, 1), (block + 3, Refused(2))):
+            receiver.place = place
+            assert bytes_left(receiver) == wanted
+    # A kind at place 0 is not possible either: 2, and not the 0 of that place
+    receiver.place = 0
     assert bytes_left(receiver) == Refused(2)
 
 

@@ -6,13 +6,16 @@
      second traffic                answers, and what is held after answer 3
      second resend                 the parts that 01's writer makes of those held
      second parts                  undamaged parts by 01's definition alone
-     second samples                01's sample traffic tried on this model
+     second left                   bytes left before and after each answer
+     second samples                01's sample traffic tried on this model, and
+                                   what bytes left means
 
    All but generate and samples read standard input to its end. */
 #include "bytes.h"
 #include "hostile.h"
 #include "receiver.h"
 #include "samples.h"
+#include "services.h"
 #include "writer.h"
 
 #include <stdio.h>
@@ -183,12 +186,64 @@ static void print_parts(void)
     free_bytes(&all);
 }
 
+/* ---- left ---- */
+
+/* Adler-32 begun at 0. */
+struct sum {
+    uint32_t low;
+    uint32_t high;
+};
+
+static void sum_byte(struct sum *sum, uint8_t byte)
+{
+    sum->low = (sum->low + byte) % 65521;
+    sum->high = (sum->high + sum->low) % 65521;
+}
+
+static void sum_figure(struct sum *sum, size_t figure)
+{
+    sum_byte(sum, (uint8_t)(figure >> 8));
+    sum_byte(sum, (uint8_t)figure);
+}
+
+static unsigned long long sum_number(const struct sum *sum)
+{
+    return sum->high * 65536ull + sum->low;
+}
+
+/* Asks after every byte how many are left.  A line for each answer but 0: bytes
+   so far, the answer, what was left before this byte and is left after it, and
+   the sum over the figures after every byte so far; at last a line with bytes,
+   what is left, and that sum. */
+static void print_left(void)
+{
+    static struct receiver receiver;
+    static struct grid grid;
+    static uint8_t chunk[CHUNK];
+    struct sum sum = {0, 0};
+    unsigned long long total = 0;
+    size_t count;
+    make_fresh(&receiver, &grid);
+    size_t left = bytes_left(&receiver);
+    while ((count = fread(chunk, 1, sizeof chunk, stdin)) > 0)
+        for (size_t i = 0; i < count; i++) {
+            size_t before = left;
+            int answer = receive_byte(&receiver, &grid, chunk[i]);
+            left = bytes_left(&receiver);
+            sum_figure(&sum, left);
+            total++;
+            if (answer != QUIET)
+                printf("%llu %d %zu %zu %llu\n", total, answer, before, left, sum_number(&sum));
+        }
+    printf("%llu %zu %llu\n", total, left, sum_number(&sum));
+}
+
 /* ---- the program ---- */
 
 static int usage(void)
 {
     fprintf(stderr, "usage: second generate SEED LENGTH\n"
-                    "       second answers | totals | traffic | resend | parts  < stream\n"
+                    "       second answers | totals | traffic | resend | parts | left  < stream\n"
                     "       second samples\n");
     return 2;
 }
@@ -225,6 +280,8 @@ static int run(int argc, char **argv)
         receive_input(tell_resent);
     else if (strcmp(name, "parts") == 0)
         print_parts();
+    else if (strcmp(name, "left") == 0)
+        print_left();
     else if (strcmp(name, "totals") == 0) {
         receive_input(count_answer);
         print_totals();

@@ -1,7 +1,9 @@
 #include "samples.h"
 
 #include "bytes.h"
+#include "countdown.h"
 #include "receiver.h"
+#include "services.h"
 #include "texts.h"
 #include "writer.h"
 
@@ -299,6 +301,65 @@ static void try_quality_bytes(void)
     }
 }
 
+/* ---- bytes left ---- */
+
+/* What is left after all these bytes. */
+static size_t left_after(const struct bytes *bytes)
+{
+    static struct grid grid;
+    struct receiver r;
+    make_fresh(&r, &grid);
+    for (size_t i = 0; i < bytes->length; i++)
+        receive_byte(&r, &grid, bytes->data[i]);
+    return bytes_left(&r);
+}
+
+/* Every figure of S behind these bytes: its eighth byte is the kind. */
+static void expect_s_counts(struct bytes *bytes, const char *what)
+{
+    uint8_t s[64];
+    put_s(s);
+    for (size_t come = 1; come <= 40; come++) {
+        add_byte(bytes, s[come - 1]);
+        expect(left_after(bytes) == (come < 8 ? 0 : 40 - come), what);
+    }
+}
+
+/* Row 15, where this text goes on, and row 18, where all is dropped. */
+static void try_left_of_s(void)
+{
+    uint8_t s[64];
+    struct bytes bytes = {0};
+    expect(left_after(&bytes) == 0, "nothing is left of nothing");
+    expect_s_counts(&bytes, "bytes left of S");
+    expect_s_counts(&bytes, "bytes left of S behind S");
+    bytes.length = 0;
+    put_s(s);
+    add_bytes(&bytes, s, 20);
+    expect(left_after(&bytes) == 20, "bytes left after 20 bytes of S");
+    expect_s_counts(&bytes, "bytes left of S behind 20 bytes of S");
+    free_bytes(&bytes);
+}
+
+/* Row 11: an opening in a quality payload, after which the kind is not yet read. */
+static void try_left_at_opening(void)
+{
+    static const uint8_t payload[QUALITY_PAYLOAD] = {0x16, 0x16, 0x16, 0x10, 0x02};
+    static const uint8_t again[] = {0xFD, 0xF1, 0x30};
+    static const size_t wanted[] = {0, 0, 32};
+    uint8_t part[QUALITY_PART];
+    struct bytes bytes = {0};
+    size_t length;
+    put_quality(part, payload, &length);
+    add_bytes(&bytes, part, QUALITY_FROM + CONTROL_BYTES);
+    expect(left_after(&bytes) == 98, "95 payload bytes and three are left");
+    for (size_t i = 0; i < sizeof again; i++) {
+        add_byte(&bytes, again[i]);
+        expect(left_after(&bytes) == wanted[i], "bytes left after an opening in a payload");
+    }
+    free_bytes(&bytes);
+}
+
 int run_samples(void)
 {
     try_times_and_payload();
@@ -310,6 +371,9 @@ int run_samples(void)
     try_check_byte_fd();
     try_quality_no_echo();
     try_quality_bytes();
+    try_left_of_s();
+    try_left_at_opening();
+    try_countdown(expect);
     if (wrong_count == 0)
         printf("samples: %d right\n", right_count);
     return wrong_count == 0 ? 0 : 1;

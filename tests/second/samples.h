@@ -1,5 +1,5 @@
-/* 01, "Sample traffic" and "Misreadings to shut out", and the samples of request
-   #107, tried on this model. */
+/* 01, "Sample traffic" and "Misreadings to shut out", the samples of request
+   #107, and what bytes left means by request #106, tried on this model. */
 #ifndef SECOND_SAMPLES_H
 #define SECOND_SAMPLES_H
 

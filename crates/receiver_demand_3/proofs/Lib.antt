@@ -1,2 +1,3 @@
--- Every list of calls of the code is a list of the claim.
+-- Every list of calls of the code is a list of the claim: Laws is what other crates may rest on.
+pub mod Laws
 pub mod Theorem

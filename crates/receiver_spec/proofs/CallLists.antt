@@ -3,7 +3,7 @@
 use mathlib.Core.Path.{_≡_, refl, sym, ap, ap₂, _∙_, subst}
 use mathlib.Core.Logic.{_≢_}
 use mathlib.Core.List.{List, [], _∷_, _++_, append-assoc, append-nil, map}
-use mathlib.Core.Bool.{not}
+use mathlib.Core.Bool.{true, not}
 use Prim.Native.Nat.{ℕ, zero, suc, _+_, _-_, _≤_}
 use native.Mathlib.Omega.{arith}
 use lib.Dec.{eqb}
@@ -136,6 +136,9 @@ slice-count-most s g bytes =
 pub record PossibleOnGrid (s : State) (g : List ℕ) : Type 0 where
   pub possible : Possible s
   pub long : length g ≡ gridLength
+
+pub sound-possible : {s : State} {g : List ℕ} → PossibleOnGrid s g → isPossible s ≡ true
+sound-possible {s} h = possible-keeps s (h .possible)
 
 pub steps-sound : (bytes : List ℕ) (s : State) (g : List ℕ) → PossibleOnGrid s g → PossibleOnGrid (stateAfter s g bytes) (gridAfter s g bytes)
 unfolding stateAfter gridAfter

@@ -4,9 +4,11 @@
 pub use Rattle.receiver_spec.proofs.Theorem.{demand-3, held-then, answers-long, after-last}
 pub use Rattle.receiver_spec.proofs.NotBefore.{not-before}
 -- Lists of calls are runs of steps, and calls on a sound state and grid (the fresh ones, and whatever steps lead to) are not refused
-pub use Rattle.receiver_spec.proofs.CallLists.{PossibleOnGrid, fresh-sound, steps-sound, not-refused, slice-taken, slice-count-most, calls-stepped, singly-taken, spread-last, answers-append, state-append, grid-append}
+pub use Rattle.receiver_spec.proofs.CallLists.{PossibleOnGrid, fresh-sound, steps-sound, calls-sound, sound-possible, not-refused, number-answered, slice-taken, slice-count-most, Stepped, calls-stepped, singly-taken, spread-last, answers-append, state-append, grid-append}
 -- What a possible state says of its place
-pub use Rattle.receiver_spec.proofs.Possible.{place-before-kind, place-in-text}
+pub use Rattle.receiver_spec.proofs.Possible.{place-after-kind, place-in-text, kind-by-place}
+-- A text under way: what one byte does to it, and the opening that it began with
+pub use Rattle.receiver_spec.proofs.UnderWay.{TextMoves, goesOn, ends, dropped, text-moves, last-due, ends-text, place-most, since-opening, Began, began}
 -- The running check byte
 pub use Rattle.receiver_spec.proofs.Steps.{check-is, xor-nil, xor-cons, xor-snoc}
 -- The opening among the last bytes seen

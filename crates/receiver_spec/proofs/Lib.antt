@@ -21,6 +21,8 @@ pub mod NotBefore
 pub mod PartAnswers
 -- demand 3
 pub mod Theorem
+-- a text under way
+pub mod UnderWay
 -- rows 1, 2, 11 and 15 exactly when; sample traffic
 pub mod Rows
 pub mod Samples

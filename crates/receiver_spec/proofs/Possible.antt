@@ -66,7 +66,7 @@ possible-facts s h = record { few = leb-true _ _ (rule-at _ h 0); due = rule-at 
     go : cond (eqb (s .kind) 0) (kindUnread s) (kindRead s) ≡ true → Shape s
     go t = by-test (eqb (s .kind) 0) (λ k. unread k (rw k at t)) (λ k. read (rw k at t))
 
--- before the kind is read, two bytes at most are taken; after it, the place lies within the text
+-- before the kind is read, two bytes at most are taken
 pub place-before-kind : (s : State) → isPossible s ≡ true → s .kind ≡ 0 → s .place ≤ 2
 place-before-kind s h k = go (possible-facts s h .shape)
   where
@@ -76,14 +76,25 @@ place-before-kind s h k = go (possible-facts s h .shape)
     go (atPicture i z q) = omega arith
     go (inText a l q n f) = never no-kind-0 (subst (λ t. isKind t ≡ true) k n)
 
-pub place-in-text : (s : State) → isPossible s ≡ true → s .kind ≢ 0 → s .place ≤ blockLength (s .kind) + 2
-place-in-text s h n = go (possible-facts s h .shape)
+-- after it, the place lies within the text
+places-of-text : (s : State) → isPossible s ≡ true → s .kind ≢ 0 → (3 ≤ s .place) × (s .place ≤ blockLength (s .kind) + 2)
+places-of-text s h n = go (possible-facts s h .shape)
   where
-    go : Shape s → s .place ≤ blockLength (s .kind) + 2
+    go : Shape s → (3 ≤ s .place) × (s .place ≤ blockLength (s .kind) + 2)
     go (between i z q c) = absurd (n z)
     go (atFD i z q) = absurd (n z)
     go (atPicture i z q) = absurd (n z)
-    go (inText a l q k f) = l
+    go (inText a l q k f) = (a, l)
+
+pub place-after-kind : (s : State) → isPossible s ≡ true → s .kind ≢ 0 → 3 ≤ s .place
+place-after-kind s h n = places-of-text s h n .0
+
+pub place-in-text : (s : State) → isPossible s ≡ true → s .kind ≢ 0 → s .place ≤ blockLength (s .kind) + 2
+place-in-text s h n = places-of-text s h n .1
+
+-- so a third byte taken is a kind read
+pub kind-by-place : (s : State) → isPossible s ≡ true → 3 ≤ s .place → s .kind ≢ 0
+kind-by-place s h l e = omega (arith, l, place-before-kind s h e)
 
 -- ---- due texts
 isDue-some : (p d : ℕ) → isPartNumber p ≡ true → isKind (kindOf p d) ≡ true → d ≢ 0 → isDue p d ≡ true

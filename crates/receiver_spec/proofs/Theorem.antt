@@ -41,7 +41,7 @@ use Rattle.receiver_spec.proofs.CallLists.{wrong-grid, byte-taken, slic
 
 -- ---- steps are moves
 
-machine-after : (bytes : List ℕ) (s : State) (g : List ℕ) → machine (stateAfter s g bytes) (gridAfter s g bytes) ≡ run radar (machine s g) bytes
+pub machine-after : (bytes : List ℕ) (s : State) (g : List ℕ) → machine (stateAfter s g bytes) (gridAfter s g bytes) ≡ run radar (machine s g) bytes
 unfolding stateAfter gridAfter run
 machine-after [] s g = refl
 machine-after (b ∷ bytes) s g =

@@ -99,6 +99,7 @@ pub record After : Type 0 where
   pub taken : List ℕ
   pub said : List ℕ
 
+-- before the first call
 unfoldable pub start : After
 start = record { state = fresh; grid = emptyGrid; taken = []; said = [] }
 
@@ -118,6 +119,7 @@ unfoldable pub next : After → Call → After
 next a (onGrid r) = add a r (ask (a .state) (a .grid) r)
 next a (elsewhere r other n) = add a r (record { reply = ask (a .state) other r .reply; count = ask (a .state) other r .count; state = a .state; grid = a .grid })
 
+-- the calls of a list, one behind the other
 unfoldable pub after : After → List Call → After
 after a [] = a
 after a (c ∷ calls) = after (next a c) calls

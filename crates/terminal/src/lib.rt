@@ -1,6 +1,6 @@
 // The one crate that a customer's program names: it passes on what such a program calls, and has no
 // code of its own. Every function answers for every value of its parameters (01, demand 1); its
-// contract stands where it is declared, an equation with a definition for all but `bytes_left`.
+// contract, an equation with a definition, stands where it is declared.
 
 // The receiver (01, "The receiver"): the state and the fresh one, a grid all 0, the byte call and the
 // slice call with what they return, and 01's numbers of answers
@@ -33,7 +33,7 @@ pub use service_levels::result::MeshResult;
 pub use service_overlay::grids::OverlayResult;
 pub use service_overlay::grids::overlay;
 
-// Services on stored parts, and on the text under way (01, "Services")
+// Services on stored parts, and on the text under way (01, "Services"; bytes left by Request 106)
 pub use service_bytes_left::left::BytesLeftResult;
 pub use service_bytes_left::left::bytes_left;
 pub use service_stored_part::payload::text_payload;

@@ -7,9 +7,9 @@ pub mod KindTable
 pub mod Payload
 -- the rules of blocks and of a part, each as a fact under its own name
 pub mod Blocks
--- inside an undamaged text an opening ends only at the block's byte 0
+-- inside an undamaged text an opening ends only at the block's byte 0, so that none in its front is later than its own
 pub mod Openings
--- parts: length, places of texts, one reading, grid
+-- the length of a text; parts: length, places of texts, one reading, grid
 pub mod Parts
 -- the tests of undamaged texts and parts decide
 pub mod Deciding

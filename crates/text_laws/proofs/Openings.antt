@@ -8,8 +8,8 @@ use mathlib.Core.List.{List, [], _∷_, _++_, append-assoc, head-eq-of-cons-eq, 
 use Prim.Native.Nat.{ℕ, zero, suc, _+_, _-_, _≤_, _<_}
 use native.Mathlib.Omega.{arith}
 use lib.Dec.{eqb, ltb}
-use lib.ListN.{length, take, drop, length-append, length-take, length-drop, List·getD-append}
-use lib.Seq.{getD-append-add, getD-drop, getD-take, take-suc}
+use lib.ListN.{length, take, drop, length-append, length-take, length-drop, take-append-drop, List·getD-append}
+use lib.Seq.{getD-append-add, getD-drop, getD-take, take-suc, take-append-le, length-take-le}
 use borrow.Author.Tests.{eqb-true, ltb-true, ltb-false}
 use Rattle.general_laws.specs.Bytes.{_!_, bit, isIn}
 use Rattle.text.specs.Text.{LPAD, SYN, DLE, FD, STX, controlA, controlB, opening, textOf}
@@ -249,3 +249,47 @@ opening-ends text u before others n l e = go n (subst (λ t. n < length t) (u .f
         (append-assoc before (take m t) (t ! m ∷ t ! suc m ∷ []) ∙ ap (λ x. before ++ x) (sym (take-two t m l)) ∙ e
         ∙ sym (append-assoc others fourControl (STX ∷ FD ∷ []))) in
         opening-place (u .block) (u .rules) m l s f
+
+-- So in an undamaged text's front, with whatever stood before it, no opening is later than the text's own
+pub no-later-opening : (before behind rest other others : List ℕ) → UndamagedText (opening ++ (behind ++ rest))
+    → before ++ (opening ++ behind) ≡ other ++ (opening ++ others) → length others ≤ length behind → others ≡ behind
+no-later-opening before behind rest other others u e l = sym (append-parts (before ++ opening) (other ++ opening) long whole .1)
+  where
+    d : ℕ
+    d = length behind - length others
+
+    whole : (before ++ opening) ++ behind ≡ (other ++ opening) ++ others
+    whole = append-assoc before opening behind ∙ e ∙ sym (append-assoc other opening others)
+
+    -- the bytes up to that opening's end
+    cut : (before ++ (opening ++ take d behind)) ++ drop d behind ≡ (other ++ opening) ++ others
+    cut =
+        append-assoc before (opening ++ take d behind) (drop d behind)
+        ∙ ap (λ t. before ++ (opening ++ t)) (take-append-drop d behind) ∙ e ∙ sym (append-assoc other opening others)
+
+    sizes : length (before ++ (opening ++ behind)) ≡ length (other ++ (opening ++ others))
+    sizes = ap length e
+
+    front : before ++ (opening ++ take d behind) ≡ other ++ opening
+    front =
+        append-parts (before ++ (opening ++ take d behind)) (other ++ opening)
+        (omega (
+          arith,
+          length-append before (opening ++ take d behind),
+          length-append other opening,
+          length-append before (opening ++ behind),
+          length-append other (opening ++ others),
+          sizes,
+          length-take-le d behind (omega (arith, l)),
+          l,
+        ))
+        cut .0
+
+    none : suc (suc (suc (suc (suc d)))) ≡ 5
+    none =
+        opening-ends (opening ++ (behind ++ rest)) u before other (suc (suc (suc (suc (suc d)))))
+        (omega (arith, length-append behind rest, l))
+        (ap (λ t. before ++ (opening ++ t)) (take-append-le d behind rest (omega (arith, l))) ∙ front)
+
+    long : length (before ++ opening) ≡ length (other ++ opening)
+    long = omega (arith, none, l, sizes, length-append before opening, length-append other opening, length-append before (opening ++ behind), length-append other (opening ++ others))

@@ -1,4 +1,4 @@
--- Parts: a part's length is settled by its start text, and so are the places of its texts. Assumes nothing.
+-- Lengths: a text's is settled by its kind; a part's by its start text, and so are the places of its texts. Assumes nothing.
 use mathlib.Core.Path.{_≡_, refl, sym, ap, ap₂, _∙_, subst}
 use mathlib.Core.Bool.{Bool, true, _&&_}
 use mathlib.Core.List.{List, [], _∷_, _++_, append-assoc, append-nil, map}
@@ -11,14 +11,15 @@ use lib.Seq.{take-at, drop-at, drop-drop, take-take, getD-take, getD-drop, getD-
 use borrow.Author.Tests.{eqb-true}
 use Rattle.general_laws.specs.Bytes.{_!_}
 use Rattle.text.specs.Text.{controlB, textOf}
-use Rattle.text.specs.Kinds.{isKind, partOf, kindOf, dataBlockLength, textLength, dataTexts, partLength}
+use Rattle.text.specs.Kinds.{isKind, partOf, kindOf, dataBlockLength, blockLength, textLength, dataTexts, partLength}
 use Rattle.text.specs.StartBlock.{noEchoOf, radarsOf}
 use Rattle.text.specs.DataBlock.{payloadOf, isDataBlock}
-use Rattle.text.specs.Part.{Part, textsOf, partBytes, isTextOf, inOrder, startPart, dataTextsAfter, isPart, UndamagedPart, gridLength, payloadsOf, zeros, gridOf, cutBlocks, cutPart}
+use Rattle.text.specs.Part.{Block, startBlock, dataBlock, endBlock, UndamagedText, Part, textsOf, partBytes, isTextOf, inOrder, startPart, dataTextsAfter, isPart, UndamagedPart, gridLength, payloadsOf, zeros, gridOf, cutBlocks, cutPart}
 use Rattle.general_laws.proofs.Tests.{by-test, and-split}
 use Rattle.text_laws.proofs.Framing.{text-length}
 use Rattle.text_laws.proofs.Blocks.{start-rules, data-rules, end-rules, PartRules, part-rules}
-use Rattle.text_laws.proofs.KindTable.{kind-part, text-back, data-is-kind, start-is-kind, data-block-length}
+use Rattle.text_laws.proofs.KindTable.{kind-part, text-back, data-is-kind, start-is-kind, data-block-length, block-least, start-block-length, end-block-length}
+use Rattle.text_laws.proofs.Openings.{block-at}
 
 -- blocks of one length
 pub data Sized (n : ℕ) : List (List ℕ) → Type 0 where
@@ -166,6 +167,26 @@ text-lengths p h =
         → map length (map textOf blocks ++ (textOf (p .end) ∷ [])) ≡ replicate (length blocks) (textLength n) ++ (length (textOf (p .end)) ∷ [])
     go none = refl
     go (one {block} {blocks} l s) = ap₂ (λ n ns. n ∷ ns) (text-length block ∙ ap (λ n. n + 8) l) (go s)
+
+-- ---- of undamaged texts, by their bytes alone
+
+block-long : {block : List ℕ} → Block block → (3 ≤ length block) × (length block ≡ blockLength (block ! 2))
+block-long {block} (startBlock h) =
+    let r = start-rules block h in
+    (omega (arith, r .long), r .long ∙ sym (start-block-length (block ! 2) (r .kind)))
+block-long {block} (dataBlock h) =
+    let r = data-rules block h in
+    (omega (arith, r .long, block-least (block ! 2) (data-is-kind (block ! 2) (r .kind))), r .long)
+block-long {block} (endBlock radars _ h) =
+    let r = end-rules radars block h in
+    (omega (arith, r .long), r .long ∙ sym (end-block-length (block ! 2) (r .kind)))
+
+-- A text's length is settled by its kind, byte 7 of the text
+pub text-length-settled : (bytes : List ℕ) → UndamagedText bytes → length bytes ≡ textLength (blockLength (bytes ! 7))
+text-length-settled bytes u =
+    let (some, long) = block-long (u .rules) in
+    ap length (u .framed) ∙ text-length (u .block)
+    ∙ ap textLength (long ∙ ap blockLength (sym (block-at (u .block) 2 some) ∙ ap (λ t. t ! 7) (sym (u .framed))))
 
 -- ---- of undamaged parts, by their bytes alone
 

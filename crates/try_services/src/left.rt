@@ -1,9 +1,10 @@
-// Bytes left in the text under way, along an echo top part.
+// Bytes left in the text under way, along each of the three parts.
 use crate::parts::make;
 use crate::print::end_line;
 use crate::print::number;
 use crate::print::refused;
 use crate::print::word;
+use crate::sums::about_part;
 use receiver_byte_call::calls::byte_call;
 use receiver_state::answer::number_of;
 use receiver_state::state::State;
@@ -30,14 +31,25 @@ fn line(taken: usize, place: u16, s: State) {
     end_with(bytes_left(s));
 }
 
-// Whether a place is shown: those before the kind is read and the first with it, two within, and the
-// last three of a text with a block of 32 bytes and of one with 403
+fn is_between(place: u16, first: u16, last: u16) -> bool {
+    (first <= place) & (place <= last)
+}
+
+// Whether a place is among the last three of a data text: of quality, of echo top, of intensity
+fn ends_data(place: u16) -> bool {
+    let quality = is_between(place, 103, 105);
+    let echo_top = is_between(place, 403, 405);
+    let intensity = is_between(place, 2003, 2005);
+    quality | echo_top | intensity
+}
+
+// Whether a place is shown: those before the kind is read and the first with it, one within, and the
+// last three of a start or end text and of a data text of each part
 fn is_shown(place: u16) -> bool {
-    let front = (1 <= place) & (place <= 3);
-    let within = (place == 17) | (place == 200);
-    let last = (32 <= place) & (place <= 34);
-    let last_of_data = (403 <= place) & (place <= 405);
-    front | within | last | last_of_data
+    let front = is_between(place, 1, 3);
+    let within = place == 17;
+    let last = is_between(place, 32, 34);
+    front | within | last | ends_data(place)
 }
 
 // After each byte that is answered, and at places that are shown
@@ -61,10 +73,18 @@ fn feed_part(grid: &mut [u8], bytes: &[u8]) {
     }
 }
 
-pub fn lines() {
-    let mut output = [0u8; 491];
-    let n = make(2, true, &mut output);
+// An output of the longest part's length takes each
+fn of_part(part: u8) {
+    let mut output = [0u8; 20190];
+    let n = make(part, true, &mut output);
     let mut grid = [0u8; 20000];
-    line(0, 0, fresh());
+    about_part(part, &output[..n]);
     feed_part(&mut grid, &output[..n]);
+}
+
+pub fn lines() {
+    line(0, 0, fresh());
+    of_part(1);
+    of_part(2);
+    of_part(3);
 }

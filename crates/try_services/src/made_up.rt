@@ -44,14 +44,51 @@ fn line(place: u16, f: [u8; 6]) {
 }
 
 // The longest text: its first place with the kind read, within, and its last
-fn possible() {
+fn longest() {
     line(3, [0x11, 0xCC, 1, 1, 0, 5]);
     line(1000, [0x15, 0xCC, 1, 5, 0, 5]);
     line(2005, [0x1A, 0xCC, 1, 10, 0, 5]);
 }
 
+// Before the kind is read: before the picture code and behind it, and with a part open
+fn without_kind() {
+    line(1, [0, 0, 0, 0, 0, 5]);
+    line(2, [0, 0xCC, 0, 0, 0, 5]);
+    line(2, [0, 0xCC, 1, 3, 0, 5]);
+}
+
+// A start text before its `FF`, another before its `FE`, and an end text with its kind just read
+fn start_and_end() {
+    line(34, [0x10, 0xCC, 0, 0, 0, 5]);
+    line(32, [0x30, 0xCC, 0, 0, 0, 5]);
+    line(3, [0x1F, 0xCC, 1, 11, 0, 5]);
+}
+
+// Data texts of echo top and of quality, each before its `FE` and before its `FF`
+fn other_data() {
+    line(403, [0x21, 0xCC, 2, 1, 0, 5]);
+    line(405, [0x21, 0xCC, 2, 1, 0, 5]);
+    line(103, [0x31, 0xCC, 3, 1, 0, 5]);
+    line(105, [0x31, 0xCC, 3, 1, 0, 5]);
+}
+
+// With a part open, and with none
+fn between_texts() {
+    line(0, [0, 0, 1, 3, 0, 5]);
+    line(0, [0, 0, 0, 0, 0, 5]);
+}
+
+fn possible() {
+    longest();
+    without_kind();
+    start_and_end();
+    other_data();
+    between_texts();
+}
+
 // Past a text's last place, place 3 with no kind, a picture code at place 0, a data kind with no
-// part open, an end kind where data is due, six bytes seen
+// part open, an end kind where data is due, six bytes seen; and past the last place of a data text of
+// quality and of echo top
 fn impossible() {
     line(2006, [0x1A, 0xCC, 1, 10, 0, 5]);
     line(35, [0x10, 0xCC, 0, 0, 0, 5]);
@@ -61,6 +98,8 @@ fn impossible() {
     line(3, [0x11, 0xCC, 0, 0, 0, 5]);
     line(3, [0x2F, 0xCC, 2, 1, 0, 5]);
     line(0, [0, 0, 0, 0, 0, 6]);
+    line(106, [0x31, 0xCC, 3, 1, 0, 5]);
+    line(406, [0x21, 0xCC, 2, 1, 0, 5]);
 }
 
 pub fn lines() {

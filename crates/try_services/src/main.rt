@@ -14,8 +14,8 @@
 //                                       that part with one byte altered, with a byte before it, with
 //                                       a byte behind it, without its last byte, and no byte of it
 //   text K LENGTH SUM                   the payload of data text K of the bytes in the line above
-//   taken TAKEN PLACE left BYTES        bytes left after so many bytes of an echo top part, where the
-//                                       state has this place
+//   taken TAKEN PLACE left BYTES        bytes left after so many bytes of the part named above, where
+//                                       the state has this place; TAKEN 0 is a fresh state
 //   state PLACE KIND PICTURE PART DUE CHECK SEEN-COUNT left BYTES
 //                                       bytes left in a state of these numbers
 // Where a service refuses, `refused` and the row of 01 stand in place of the last word and its

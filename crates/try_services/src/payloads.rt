@@ -4,6 +4,7 @@ use crate::print::byte;
 use crate::print::end_line;
 use crate::print::word;
 use crate::sums::about;
+use crate::sums::about_part;
 use crate::sums::length_and_sum;
 use service_stored_part::payload::text_payload;
 ghost use Prim.Native.Nat.{_+_, _<_, _≤_};
@@ -40,10 +41,7 @@ fn damaged(name: &[u8], bytes: &[u8]) {
 fn whole(part: u8, space: &[u8], n: usize)
     requires { ⌜ n + 1 < length (now space) ⌝ }
 {
-    word(b"part");
-    byte(part);
-    length_and_sum(&space[1..n + 1]);
-    end_line();
+    about_part(part, &space[1..n + 1]);
     all_texts(&space[1..n + 1]);
 }
 

@@ -1,4 +1,5 @@
 // A sum over bytes, by which a few numbers show many bytes.
+use crate::print::byte;
 use crate::print::end_line;
 use crate::print::number;
 use crate::print::word;
@@ -26,6 +27,14 @@ pub fn length_and_sum(bytes: &[u8]) {
 // A line that says which bytes the lines below it are about
 pub fn about(name: &[u8], bytes: &[u8]) {
     word(name);
+    length_and_sum(bytes);
+    end_line();
+}
+
+// The same for a part, by its number
+pub fn about_part(part: u8, bytes: &[u8]) {
+    word(b"part");
+    byte(part);
     length_and_sum(bytes);
     end_line();
 }

@@ -1,0 +1,28 @@
+-- The grid keeps its length. The measure is what is left of the bytes. Assumes nothing.
+use mathlib.Core.Path.{_≡_}
+use Prim.Native.Nat.{_-_}
+use lib.ListN.{length}
+use borrow.Author.Needs.{needs}
+use Rattle.try_bytes_left.proofs.feed.Statement.{statement}
+use Rattle.try_bytes_left.proofs.feed.Tie as tie
+
+abbrev Inv-loop : tie.InvT-loop
+Inv-loop grid₀ bytes now₀ i₀ grid now i = length grid ≡ length grid₀
+
+abbrev μ-loop : tie.MeasureT-loop
+μ-loop grid₀ bytes now₀ i₀ grid now i = length bytes - i
+
+pub feed-spec : {M : Type 1} → statement M
+feed-spec =
+    tie.close
+    (tie.spec
+    Inv-loop
+    μ-loop
+    (λ c. search needs)
+    (λ c. search needs)
+    (λ c κs. search needs)
+    (λ c. search needs)
+    (λ c. search needs)
+    (λ c. search needs)
+    (λ c. search needs)
+    (λ c. search needs))
