@@ -42,6 +42,13 @@ GRIDS = [
     (grid({}), (0, 0, 0, 7500)),
     # Every mesh of the grid at level 14 but the last 500 bytes, whose even meshes stay 0
     (grid({0: b"\xEE" * 19_500}), (39_000, 39_000, 39_000, 39_500)),
+    # One echo in every 161st byte, alone among bytes `00`, so that each stretch of 160 bytes has one, at another place:
+    # an even mesh of level 1, of which the last three are new to the overlay, and an odd one of level 9
+    (grid({161 * k: b"\x01" for k in range(125)}), (125, 0, 0, 39_503)),
+    (grid({161 * k + 35: b"\x90" for k in range(125)}), (125, 125, 0, 39_503)),
+    # Level 15 alone among bytes `00`
+    (grid({10_001: b"\x0F"}), REFUSED),
+    (grid({9_998: b"\xF0"}), REFUSED),
 ]
 # Fewer bytes than a grid has at the end, which are none
 REST = b"\xEE" * 9

@@ -92,17 +92,35 @@ def count(grid, level, wanted=None):
     answer(("from", level), "count", services.meshes_from(grid, level), wanted)
 
 
+def all_levels(grid, known):
+    for level in range(16):
+        count(grid, level, {0: 40_000, 15: Refused(41), **known}.get(level))
+
+
 def levels():
     line("grid", len(FIRST), adler(FIRST))
     # From the first two bytes, by hand
     known = {0: Refused(41), 1: 1, 2: 12, 3: 2, 4: 13, 40_001: Refused(41), 4_294_967_295: Refused(41)}
     for number in (0, 1, 2, 3, 4, 19_999, 20_000, 39_999, 40_000, 40_001, 4_294_967_295):
         mesh(FIRST, number, known.get(number))
-    for level in range(16):
-        count(FIRST, level, {0: 40_000, 15: Refused(41)}.get(level))
+    all_levels(FIRST, {})
     # 225 bytes have each level in 30 meshes; the grid has them 88 times, and 200 bytes more
     for level in range(15):
         assert 88 * 30 * (15 - level) <= services.meshes_from(FIRST, level) <= 89 * 30 * (15 - level)
+
+
+# Bytes `00`, whose meshes count at level 0 alone: a grid of nothing else, and one with a stretch that has every
+# allowed byte
+def dry():
+    line("grid", GRID, adler(bytes(GRID)))
+    all_levels(bytes(GRID), dict.fromkeys(range(1, 15), 0))
+    stretch = first_grid(339)
+    grid = bytes(5001) + stretch + bytes(GRID - 5340)
+    line("grid", len(grid), adler(grid))
+    all_levels(grid, {})
+    # 339 bytes are the 225 once, and 114 of them again
+    for level in range(1, 15):
+        assert 30 * (15 - level) <= services.meshes_from(grid, level) <= 60 * (15 - level)
 
 
 # A grid that is refused with `row` whatever is asked; where `row` is None only what there is not is refused
@@ -336,6 +354,7 @@ def states():
 
 if __name__ == "__main__":
     levels()
+    dry()
     refusals()
     overlays()
     overlay_refusals()

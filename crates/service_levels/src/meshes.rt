@@ -1,10 +1,9 @@
 // The level of a mesh, and how many meshes are at or above a level.
+use crate::counts::count_from;
+use crate::counts::has_no_level_15;
 use crate::result::MeshResult;
-use text::payload::are_payload_bytes;
 ghost use mathlib.Core.Path.{_≡_};
-ghost use Prim.Native.Nat.{_*_, _≤_};
-ghost use lib.ListN.{length};
-ghost use Rattle.service_levels.specs.Meshes.{countTo, meshLevel, meshesFrom};
+ghost use Rattle.service_levels.specs.Meshes.{meshLevel, meshesFrom};
 ghost use Rattle.service_levels.specs.Returned.{answerOf};
 
 // The level of a mesh, 1 to 40,000: the odd number is in the high four bits.
@@ -15,7 +14,7 @@ pub fn mesh_level(grid: &[u8], mesh: u32) -> MeshResult
     if grid.len() != 20000 {
         return MeshResult::Refused(42);
     }
-    if !are_payload_bytes(1, grid) {
+    if !has_no_level_15(grid) {
         return MeshResult::Refused(43);
     }
     if (mesh == 0) | (40000 < mesh) {
@@ -28,22 +27,6 @@ pub fn mesh_level(grid: &[u8], mesh: u32) -> MeshResult
     MeshResult::Value((b % 16) as u32)
 }
 
-// How many meshes are at or above a level. The loop has no way out, so that the compiler can take
-// many bytes at a time. Notice 49, 5(3)(3-1)
-fn count_from(grid: &[u8], level: u8) -> u32
-    requires { ⌜ length (now grid) ≤ 20000 ⌝ }
-    ensures { λ r. ⌜ r ≡ countTo (now (grid .entry)) level (2 * length (now (grid .entry))) ⌝ }
-{
-    let mut count = 0;
-    let mut i = 0;
-    while i < grid.len() {
-        let b = grid[i];
-        count += ((level <= b / 16) as u32) + ((level <= b % 16) as u32);
-        i += 1;
-    }
-    count
-}
-
 // How many of the 40,000 meshes are at or above a level, 0 to 14. Notice 49, 5(3)(3-1)
 pub fn meshes_from(grid: &[u8], level: u8) -> MeshResult
     ensures { λ r. ⌜ answerOf r ≡ meshesFrom (now (grid .entry)) level ⌝ }
@@ -51,7 +34,7 @@ pub fn meshes_from(grid: &[u8], level: u8) -> MeshResult
     if grid.len() != 20000 {
         return MeshResult::Refused(42);
     }
-    if !are_payload_bytes(1, grid) {
+    if !has_no_level_15(grid) {
         return MeshResult::Refused(43);
     }
     if 14 < level {

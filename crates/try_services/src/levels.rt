@@ -59,3 +59,14 @@ pub fn lines() {
     all_meshes(&grid);
     all_levels(&grid);
 }
+
+// Bytes `00`, whose meshes count at level 0 alone (Request 102): a grid of nothing else, and one with
+// a stretch that has every allowed byte
+pub fn dry_lines() {
+    let mut grid = [0u8; 20000];
+    about(b"grid", &grid);
+    all_levels(&grid);
+    fill_grid(true, &mut grid[5001..5340]);
+    about(b"grid", &grid);
+    all_levels(&grid);
+}

@@ -35,6 +35,7 @@ mod sums;
 
 fn main() {
     levels::lines();
+    levels::dry_lines();
     refusals::lines();
     overlays::lines();
     clocks::lines();

@@ -8,7 +8,6 @@ use borrow.Author.Tests.{eq-eqb, ne-eqb}
 use Rattle.text.specs.DataBlock.{oddLevel, evenLevel}
 use Rattle.service_levels.specs.Meshes.{levelOf, meshLevel}
 use Rattle.service_levels.specs.Returned.{answerOf}
-use Rattle.text_laws.proofs.Payload.{intensity-is-payload}
 use Rattle.service_levels.proofs.Counting.{no-mesh, mesh-in}
 use Rattle.service_levels.proofs.meshes.mesh_level.Statement.{statement}
 use Rattle.service_levels.proofs.meshes.mesh_level.Tie as tie
@@ -22,7 +21,7 @@ unfolding answerOf meshLevel
 returns-2 c =
     simp (
       eq-eqb _ _ (c .before .before .if1 .left),
-      ap not (intensity-is-payload _ ∙ sym (c .before .are-payload-bytes .ensures)) ∙ c .if2 .taken,
+      ap not (sym (c .before .has-no-level-15 .ensures)) ∙ c .if2 .taken,
     )
 
 returns-3 : tie.Need-returns-3
@@ -31,7 +30,7 @@ returns-3 c =
     let judged = c .before in
     simp (
       eq-eqb _ _ (judged .before .before .if1 .left),
-      ap not (intensity-is-payload _ ∙ sym (judged .before .are-payload-bytes .ensures)) ∙ judged .if2 .left,
+      ap not (sym (judged .before .has-no-level-15 .ensures)) ∙ judged .if2 .left,
       no-mesh (judged .before .before .before .before .args .mesh) ∙ c .if3 .taken,
     )
 
@@ -50,7 +49,7 @@ returns-4 c =
     let judged = meshed .before in
     simp (
       eq-eqb _ _ (judged .before .before .if1 .left),
-      ap not (intensity-is-payload _ ∙ sym (judged .before .are-payload-bytes .ensures)) ∙ judged .if2 .left,
+      ap not (sym (judged .before .has-no-level-15 .ensures)) ∙ judged .if2 .left,
       no-mesh (judged .before .before .before .before .args .mesh) ∙ meshed .if3 .left,
       eq-eqb _ _ (c .if4 .taken),
     )
@@ -62,7 +61,7 @@ returns-5 c =
     let judged = meshed .before in
     simp (
       eq-eqb _ _ (judged .before .before .if1 .left),
-      ap not (intensity-is-payload _ ∙ sym (judged .before .are-payload-bytes .ensures)) ∙ judged .if2 .left,
+      ap not (sym (judged .before .has-no-level-15 .ensures)) ∙ judged .if2 .left,
       no-mesh (judged .before .before .before .before .args .mesh) ∙ meshed .if3 .left,
       ne-eqb _ _ (c .if4 .left),
     )

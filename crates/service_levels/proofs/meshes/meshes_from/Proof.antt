@@ -1,13 +1,11 @@
 -- The refusals in their order; then the count. Assumes nothing.
 use mathlib.Core.Path.{sym, ap, _∙_}
 use mathlib.Core.Bool.{not}
-use Prim.Native.Nat.{_*_}
 use native.Mathlib.Omega.{arith}
 use borrow.Author.Needs.{needs}
 use borrow.Author.Tests.{eq-eqb, ne-eqb, le-leb, lt-leb}
-use Rattle.service_levels.specs.Meshes.{value, countTo, meshesFrom}
+use Rattle.service_levels.specs.Meshes.{value, meshesFrom}
 use Rattle.service_levels.specs.Returned.{answerOf}
-use Rattle.text_laws.proofs.Payload.{intensity-is-payload}
 use Rattle.service_levels.proofs.meshes.meshes_from.Statement.{statement}
 use Rattle.service_levels.proofs.meshes.meshes_from.Tie as tie
 
@@ -20,7 +18,7 @@ unfolding answerOf meshesFrom
 returns-2 c =
     simp (
       eq-eqb _ _ (c .before .before .if1 .left),
-      ap not (intensity-is-payload _ ∙ sym (c .before .are-payload-bytes .ensures)) ∙ c .if2 .taken,
+      ap not (sym (c .before .has-no-level-15 .ensures)) ∙ c .if2 .taken,
     )
 
 returns-3 : tie.Need-returns-3
@@ -30,7 +28,7 @@ returns-3 c =
     let sized = judged .before .before in
     simp (
       eq-eqb _ _ (sized .if1 .left),
-      ap not (intensity-is-payload _ ∙ sym (judged .before .are-payload-bytes .ensures)) ∙ judged .if2 .left,
+      ap not (sym (judged .before .has-no-level-15 .ensures)) ∙ judged .if2 .left,
       lt-leb (sized .before .before .args .level) 14 (omega arith),
     )
 
@@ -40,13 +38,11 @@ returns-4 c =
     let levelled = c .before in
     let judged = levelled .before in
     let sized = judged .before .before in
-    let a = sized .before .before .args in
-    let long = sized .if1 .left in
     simp (
-      eq-eqb _ _ long,
-      ap not (intensity-is-payload _ ∙ sym (judged .before .are-payload-bytes .ensures)) ∙ judged .if2 .left,
-      le-leb (a .level) 14 (omega arith),
-    ) (ap value (c .count-from .ensures ∙ ap (λ n. countTo (a .grid .now) (a .level) (2 * n)) long))
+      eq-eqb _ _ (sized .if1 .left),
+      ap not (sym (judged .before .has-no-level-15 .ensures)) ∙ judged .if2 .left,
+      le-leb (sized .before .before .args .level) 14 (omega arith),
+    ) (ap value (c .count-from .ensures))
 
 pub meshes-from-spec : {M : Type 1} → statement M
 meshes-from-spec = tie.close (tie.spec returns (λ c κs. search needs) returns-2 returns-3 (λ c κs. search needs) returns-4)
