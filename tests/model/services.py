@@ -1,14 +1,16 @@
-"""01-scope.md, section "Services", with Request 106, as plain functions.
+"""01-scope.md, section "Services", with Requests 106 and 110, as plain functions.
 
 Written from these papers alone, on texts.py and receiver.py, the models of 01's sections "A text" (with
 Request 107) and "The receiver": nothing here is taken from the library or from its definitions. A grid is
 bytes; a mesh number, a level and a clock are numbers. A service gives its value, or `Refused` with the row of
-01's table: "A service's refusal carries no value." What stands in quotes is 01's, and after "Request 106:"
-that request's, whose bytes left take the place of what 01 leaves free.
+01's table: "A service's refusal carries no value." What stands in quotes is 01's, and after "Request 106:" or
+"Request 110:" that request's; 106's bytes left take the place of what 01 leaves free.
 
-Run as a program, it tries what the papers' figures settle by hand.
+Run as a program, it tries what the papers' figures settle by hand, and Request 110's claim on random grids.
 """
 
+import functools
+import random
 import sys
 from collections import namedtuple
 
@@ -115,6 +117,51 @@ def _grids():
     assert overlay(grid, b"\x0F" + grid[1:], other) == (Refused(43), other)
 
 
+# Request 110: "Regional rooms lay up to twenty grids over one another in the order of arrival. Show for overlay that
+# order and grouping make no difference, that a grid over itself is that grid, and that the all-zero grid changes
+# nothing, for all intensity grids without level 15." A tree is a grid, or two trees laid over each other. What each call
+# answered, and the grid that is left; every third grid holds `third` before
+def lay(tree, third):
+    if isinstance(tree, bytes):
+        return [], tree
+    (answers, first), (more, second) = (lay(branch, third) for branch in tree)
+    refused, grid = overlay(first, second, third)
+    return [*answers, *more, refused], grid
+
+
+def in_order(grids):
+    return functools.reduce(lambda laid, grid: (laid, grid), grids)
+
+
+def in_groups(grids, rng):
+    if len(grids) == 1:
+        return grids[0]
+    cut = rng.randrange(1, len(grids))
+    return in_groups(grids[:cut], rng), in_groups(grids[cut:], rng)
+
+
+def _orders():
+    rng = random.Random(110)
+    full, zeros = b"\xFF" * GRID, bytes(GRID)
+    allowed = bytes(odd * 16 + even for odd in LEVELS for even in LEVELS)
+    grids = [bytes(rng.choices(allowed, k=GRID)) for _ in range(20)]
+    highest = bytes(max(b >> 4 for b in column) * 16 + max(b & 15 for b in column) for column in zip(*grids))
+    assert lay(in_order(grids), full) == ([None] * 19, highest)
+    for count in (20, 20, 3, 2):
+        some = grids[:count]
+        wanted = lay(in_order(some), zeros)[1]
+        rng.shuffle(some)
+        assert lay(in_groups(some, rng), full) == ([None] * (count - 1), wanted)
+        assert lay(in_groups(some + [zeros, some[0]], rng), zeros) == ([None] * (count + 1), wanted)
+    # One among several that cannot be laid: the call that reads it is refused and leaves its third grid, of which the
+    # calls above it know nothing
+    for unfit, row in ((grids[0][:-1], 42), (grids[0] + b"\x00", 42), (b"\x0F" + grids[0][1:], 43), (b"\xF0" + grids[0][1:], 43)):
+        assert overlay(unfit, grids[1], full) == overlay(grids[1], unfit, full) == (Refused(row), full)
+        for some in ([unfit, *grids[1:6]], [*grids[1:6], unfit]):
+            answers, _ = lay(in_groups(some, rng), zeros)
+            assert answers.count(Refused(row)) == 1 and answers.count(None) == 4
+
+
 def _clocks():
     pairs = ((0, 0), (0, 1), (1, 0), (16_383, 0), (0, 16_383), (65_535, 0), (0, 65_535), (16_384, 0))
     assert [clock_steps(a, b) for a, b in pairs] == [0, 1, 16_383, 1, 16_383, 1, 16_383, 0]
@@ -159,6 +206,7 @@ def _left():
 
 if __name__ == "__main__":
     _grids()
+    _orders()
     _clocks()
     _payloads()
     _left()

@@ -1,3 +1,2 @@
--- The laws of overlay, and the proofs of the functions beside them.
-pub mod Laws
+-- What the proofs of the functions beside it need.
 pub mod Overlaying

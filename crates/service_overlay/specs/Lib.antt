@@ -1,3 +1,2 @@
--- 01's section "Services": overlay of two grids. Assumes nothing.
-pub mod Overlay
+-- What the code of overlay returns, in the terms of its definition. Assumes nothing.
 pub mod Returned

@@ -2,7 +2,7 @@
 use Prim.Native.Nat.{ℕ}
 use mathlib.Core.List.{List}
 use Rattle.service_levels.specs.Meshes.{done, refused}
-use Rattle.service_overlay.specs.Overlay.{OverlayOutcome}
+use Rattle.service_overlay_spec.specs.Overlay.{OverlayOutcome}
 use Rattle.service_overlay.specs.declared.grids.OverlayResult.{OverlayResult}
 use Rattle.service_overlay.specs.declared.grids.OverlayResult.the-variants.{Done, Refused}
 

@@ -2,7 +2,7 @@
 use text::payload::are_payload_bytes;
 ghost use mathlib.Core.Path.{_≡_};
 ghost use lib.ListN.{length};
-ghost use Rattle.service_overlay.specs.Overlay.{higherByte, higher, overlaid};
+ghost use Rattle.service_overlay_spec.specs.Overlay.{higherByte, higher, overlaid};
 ghost use Rattle.service_overlay.specs.Returned.{outcomeOf};
 
 // Done, or a refusal: 42 or 43

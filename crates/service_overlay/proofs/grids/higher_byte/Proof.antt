@@ -2,7 +2,7 @@
 use mathlib.Core.Logic.{⊎-elim}
 use native.Mathlib.Omega.{arith}
 use Rattle.text.specs.DataBlock.{oddLevel, evenLevel}
-use Rattle.service_overlay.specs.Overlay.{higherByte}
+use Rattle.service_overlay_spec.specs.Overlay.{higherByte}
 use Rattle.service_overlay.proofs.grids.higher_byte.Statement.{statement}
 use Rattle.service_overlay.proofs.grids.higher_byte.Tie as tie
 

@@ -2,7 +2,7 @@
 use mathlib.Core.Path.{sym, ap, ap₂, _∙_}
 use mathlib.Core.Bool.{not, _&&_}
 use borrow.Author.Needs.{needs}
-use Rattle.service_overlay.specs.Overlay.{overlaid}
+use Rattle.service_overlay_spec.specs.Overlay.{overlaid}
 use Rattle.service_overlay.specs.Returned.{outcomeOf}
 use Rattle.text_laws.proofs.Payload.{intensity-is-payload}
 use Rattle.service_overlay.proofs.Overlaying.{no-grids, one-length}

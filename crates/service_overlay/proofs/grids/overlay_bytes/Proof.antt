@@ -5,7 +5,7 @@ use native.Mathlib.Omega.{arith}
 use lib.ListN.{length, take, length-set}
 use lib.Seq.{sets}
 use borrow.Author.Needs.{needs}
-use Rattle.service_overlay.specs.Overlay.{higher}
+use Rattle.service_overlay_spec.specs.Overlay.{higher}
 use Rattle.service_overlay.proofs.Overlaying.{overlay-on, overlay-all}
 use Rattle.service_overlay.proofs.grids.overlay_bytes.Statement.{statement}
 use Rattle.service_overlay.proofs.grids.overlay_bytes.Tie as tie
