@@ -1,6 +1,7 @@
 /* The receiver of 01-scope.md, section "The receiver", written plainly in C from that paper, to be
  * measured against. Rows are those of 01's table, and what stands in quotes is 01's; for the quality
- * bits it is that of request #107, which put a new sheet in place of 01's.
+ * bits it is that of request #107, which put a new sheet in place of 01's, and marks and row 51 are
+ * those of Request 101.
  *
  *   byte_call           one byte, the state by pointer
  *   slice_call          a slice, byte by byte, up to the first answer other than 0
@@ -18,6 +19,7 @@
 
 enum { GRID = 20000, EDGE_BLOCK = 32 };
 enum { NONE = 0, INTENSITY = 1, TOP = 2, QUALITY = 3 };
+enum { ALL_MARKS = 0xFFFFF };
 enum { START = 0, END = 11 };  /* a text's number within its part; data texts are 1 to 10 */
 
 /* "The opening is the five control bytes and the `FD`." */
@@ -36,6 +38,7 @@ struct header {
 struct receiver {
     uint64_t seen;      /* the last five bytes seen, the latest lowest; 0 is in no opening, and so it does
                            not matter how many were seen */
+    uint32_t marks;     /* "one for each picture code in 01's order .. with `C0` at bit 0" */
     uint16_t place;     /* "0 between texts, else the count of bytes taken from `FD` on" */
     uint8_t kind;       /* "0 until read and at place 0" */
     uint8_t picture;    /* the same, of the text under way */
@@ -53,16 +56,13 @@ struct taken {
 
 /* ---- "A text" */
 
-static int is_picture(uint8_t b)
-{
-    switch (b) {
-    case 0xC0: case 0xC1: case 0xC2: case 0xC4: case 0xC5: case 0xC8: case 0xC9: case 0xCC:
-    case 0xD2: case 0xD3: case 0xD4: case 0xD5: case 0xD8: case 0xDC:
-    case 0xE0: case 0xE1: case 0xE4: case 0xE5: case 0xF0: case 0xF1:
-        return 1;
-    }
-    return 0;
-}
+/* The mark of a picture code; 0 for every other byte, so that this is the list of codes too */
+static const uint32_t mark_of[256] = {
+    [0xC0] = 1u << 0, [0xC1] = 1u << 1, [0xC2] = 1u << 2, [0xC4] = 1u << 3, [0xC5] = 1u << 4,
+    [0xC8] = 1u << 5, [0xC9] = 1u << 6, [0xCC] = 1u << 7, [0xD2] = 1u << 8, [0xD3] = 1u << 9,
+    [0xD4] = 1u << 10, [0xD5] = 1u << 11, [0xD8] = 1u << 12, [0xDC] = 1u << 13, [0xE0] = 1u << 14,
+    [0xE1] = 1u << 15, [0xE4] = 1u << 16, [0xE5] = 1u << 17, [0xF0] = 1u << 18, [0xF1] = 1u << 19,
+};
 
 /* "`A0` to `A5`, `A7` to `AF`, `B0 B1 B3 B4 B5 B6`" */
 static int is_radar(uint8_t b)
@@ -138,12 +138,15 @@ static int is_time(const uint8_t *d)
 
 /* ---- "The receiver" */
 
-/* "Dropped: state and grid as fresh, but the last bytes seen are kept" */
+/* "Dropped: state and grid as fresh, but the last bytes seen are kept"; a receiver "keeps [its marks] for
+ * good" */
 static void drop(struct receiver *r, uint8_t *grid)
 {
     uint64_t seen = r->seen;
+    uint32_t marks = r->marks;
     memset(r, 0, sizeof *r);
     r->seen = seen;
+    r->marks = marks;
     memset(grid, 0, GRID);
 }
 
@@ -153,10 +156,12 @@ static int dropped(struct receiver *r, uint8_t *grid, int answer)
     return answer;
 }
 
-/* "Fresh: nothing seen, place 0, no part, all else 0, grid all 0." */
-void fresh(struct receiver *r, uint8_t *grid)
+/* "Fresh: nothing seen, place 0, no part, all else 0, grid all 0."; with marks beyond the twentieth it
+ * "has no mark at all" */
+void fresh(struct receiver *r, uint8_t *grid, uint32_t marks)
 {
     memset(r, 0, sizeof *r);
+    r->marks = marks > ALL_MARKS ? 0 : marks;
     memset(grid, 0, GRID);
 }
 
@@ -302,8 +307,11 @@ static inline int step(struct receiver *r, uint8_t *restrict grid, uint8_t b)
         return 0;                   /* "With no part open, bytes between texts are free." */
     }
     if (r->place == 1) {
-        if (!is_picture(b))
+        uint32_t mark = mark_of[b];
+        if (mark == 0)
             return dropped(r, grid, 13);
+        if ((r->marks & mark) == 0)
+            return dropped(r, grid, 51);
         r->picture = b;
         r->check ^= b;
         r->place = 2;
@@ -417,13 +425,15 @@ int refusal(const struct receiver *r, size_t grid_len)
 {
     if (grid_len != GRID)
         return 1;
+    if (r->marks > ALL_MARKS)
+        return 2;
     if (r->part == NONE ? r->due != 0 : r->part > QUALITY || r->due == 0 || r->due > END)
         return 2;
     if (r->part > INTENSITY && r->due != 1 && r->due != END)
         return 2;
     if (r->place == 0 && r->check != 0)
         return 2;
-    if (r->place <= 1 ? r->picture != 0 : !is_picture(r->picture))
+    if (r->place <= 1 ? r->picture != 0 : mark_of[r->picture] == 0)
         return 2;
     if (r->place <= 2)
         return r->kind != 0 ? 2 : 0;
@@ -437,16 +447,17 @@ int refusal(const struct receiver *r, size_t grid_len)
 
 /* ---- The listening program
  *
- *     receiver byte|asked|slice|payload [slice length, 0 for all that is left [states]]
+ *     receiver byte|asked|slice|payload [slice length, 0 for all that is left [lines|states [marks]]]
  *
  * reads standard input and prints 01's lines; "asked" is the byte call with refusals 1 and 2 asked before
  * each byte, as 01's byte call does. With "states" it prints a line after each call instead, with the answer,
- * the state and the CRC-32 of the grid, and stops at a state that would be refused.
+ * the state and the CRC-32 of the grid, and stops at a state that would be refused. The receiver has all
+ * twenty marks, or those of the number that is given.
  *
  *     receiver refusals
  *
- * reads states of seven bytes (place in two, high first, kind, picture code, part, due text, check byte)
- * and prints for each what refusal() says. tests/compare_c.py compares all with the model. */
+ * reads states of eleven bytes (place in two, high first, kind, picture code, part, due text, check byte,
+ * and marks in four, high first) and prints for each what refusal() says. tests/compare_c.py compares all with the model. */
 #ifdef LISTEN
 #include <stdio.h>
 #include <stdlib.h>
@@ -486,14 +497,15 @@ static void print_state(const struct receiver *r, const uint8_t *grid)
     print_numbers(h->radars, 8);
     printf(" %d %d %d %d", h->clock, h->picture, h->mode, h->no_echo);
     print_numbers(r->modes, 8);
-    printf(" %u\n", crc(grid, GRID));
+    printf(" %u %u\n", r->marks, crc(grid, GRID));
 }
 
 static void print_refusals(const uint8_t *bytes, size_t len)
 {
-    for (; len >= 7; bytes += 7, len -= 7) {
+    for (; len >= 11; bytes += 11, len -= 11) {
+        uint32_t marks = (uint32_t)bytes[7] << 24 | bytes[8] << 16 | bytes[9] << 8 | bytes[10];
         struct receiver r = { .place = bytes[0] << 8 | bytes[1], .kind = bytes[2], .picture = bytes[3],
-                              .part = bytes[4], .due = bytes[5], .check = bytes[6] };
+                              .part = bytes[4], .due = bytes[5], .check = bytes[6], .marks = marks };
         printf("%d\n", refusal(&r, GRID));
     }
 }
@@ -511,6 +523,7 @@ int main(int argc, char **argv)
     enum way way = way_of(entry);
     size_t most = argc > 2 ? strtoul(argv[2], NULL, 10) : 0;
     int states = argc > 3 && strcmp(argv[3], "states") == 0;
+    uint32_t marks = argc > 4 ? strtoul(argv[4], NULL, 10) : ALL_MARKS;
     size_t len = 0, room = 1 << 16, got;
     uint8_t *bytes = malloc(room), *grid = malloc(GRID);
     struct receiver r;
@@ -526,7 +539,7 @@ int main(int argc, char **argv)
         len = 0;
     }
     make_crc_table();
-    fresh(&r, grid);
+    fresh(&r, grid, marks);
     for (size_t i = 0; i < len;) {
         size_t n = most == 0 || most > len - i ? len - i : most;
         struct taken t = { 1, 0 };

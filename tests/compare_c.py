@@ -5,9 +5,10 @@
 It builds the C file as a program (with $CC, else cc), gives it the stream of listen.py and hostile
 traffic made by tests/second with fixed seeds, and compares: the listening lines from the byte call and both slice
 calls, in slices of several lengths; the state and the grid after every call; and refusals 1 and 2 of
-made-up states. It also holds the model's answer 3 against texts.py on the same streams: a part is complete
-exactly when the bytes taken end with an undamaged part, and is then kept as it was sent. Ends with an error
-at the first difference, and otherwise says what was compared.
+made-up states. The receivers have all twenty marks, and on some streams each of several others (Request 101). It
+also holds the model's answer 3 against texts.py on the same streams: a part is complete exactly when the bytes taken
+end with an undamaged part of a marked picture, and is then kept as it was sent. Ends with an error at the first
+difference, and otherwise says what was compared.
 """
 
 import os
@@ -26,13 +27,23 @@ sys.path[:0] = [str(HERE), str(HERE / "model")]
 import texts
 from listen import STREAM
 from receiver import LENGTH, Receiver, part_at_end
-from texts import CONTROL, FF, KINDS, OPENING
+from texts import CONTROL, FF, KINDS, OPENING, PICTURES
+
+ALL_MARKS = 1_048_575
 
 # ---- Streams
 
 # Hostile traffic, from the generator that differential.py uses
 def hostile_stream(second, seed, size):
     return subprocess.run([second, "generate", str(seed), str(size)], capture_output=True, check=True).stdout
+
+
+# Numbers that receivers are made from, and hostile traffic for them: parts of marked and of unmarked pictures
+def marks_stream(second, seed, size):
+    command = [second, "generate-marks", str(seed), str(size)]
+    made = subprocess.run(command, capture_output=True, check=True).stdout
+    head = 1 + 4 * made[0]
+    return [int.from_bytes(made[at:at + 4], "big") for at in range(1, head, 4)], made[head:]
 
 
 # Nothing but bytes that matter
@@ -48,9 +59,14 @@ def likely_stream(seed, size):
 
 # ---- The model's side
 
+# Has the picture its mark in a receiver that was made from this number?
+def is_marked(picture, number):
+    return number <= ALL_MARKS and number >> PICTURES.index(picture) & 1 == 1
+
+
 # The listening lines; and answer 3 held against texts.py
-def model_lines(data):
-    receiver = Receiver()
+def model_lines(data, number):
+    receiver = Receiver(number)
     lines = []
     for read, b in enumerate(data, 1):
         answer = receiver.byte(b)
@@ -58,6 +74,8 @@ def model_lines(data):
             lines.append(f"{read} {answer}")
         if b == FF:
             part = part_at_end(data[max(0, read - 20_190):read])
+            if part is not None and not is_marked(texts.header_of_part(part).picture, number):
+                part = None
             assert (answer == 3) == (part is not None), f"after {read} bytes"
             if part is not None:
                 assert receiver.header == texts.header_of_part(part)
@@ -67,8 +85,8 @@ def model_lines(data):
 
 
 # A line for each call, with the answer, the state and the CRC-32 of the grid, as the C program prints it
-def model_states(data, most):
-    receiver = Receiver()
+def model_states(data, most, number):
+    receiver = Receiver(number)
     lines = []
     at = 0
     while at < len(data):
@@ -78,7 +96,7 @@ def model_states(data, most):
         header = receiver.header
         numbers = (receiver.place, receiver.kind, receiver.picture, receiver.part, receiver.due, receiver.check,
                    *header.time, *header.radars, header.clock, header.picture, header.mode, int(header.noecho),
-                   *receiver.modes, zlib.crc32(receiver.grid))
+                   *receiver.modes, receiver.marks, zlib.crc32(receiver.grid))
         lines.append(f"{at} {answer} {receiver.seen.rjust(5, bytes(1)).hex()} {' '.join(map(str, numbers))}")
     return lines
 
@@ -101,20 +119,21 @@ def same(name, ours, theirs):
 SLICE_LENGTHS = (0, 1, 2, 3, 6, 7, 100, 2003)
 
 
-def compare_lines(program, name, data, answers):
-    lines = model_lines(data)
+def compare_lines(program, name, data, answers, number=ALL_MARKS):
+    lines = model_lines(data, number)
     answers.update(int(line.split()[1]) for line in lines)
-    same(f"{name}, byte call", lines, c_lines(program, data, "byte"))
+    for entry in ("byte", "asked"):
+        same(f"{name}, {entry}", lines, c_lines(program, data, entry, 0, "lines", number))
     for entry in ("slice", "payload"):
         for most in SLICE_LENGTHS:
-            same(f"{name}, {entry} by {most}", lines, c_lines(program, data, entry, most))
+            same(f"{name}, {entry} by {most}", lines, c_lines(program, data, entry, most, "lines", number))
 
 
-def compare_states(program, name, data, most):
-    lines = model_states(data, most)
+def compare_states(program, name, data, most, number=ALL_MARKS):
+    lines = model_states(data, most, number)
     entries = ("byte", "slice", "payload") if most == 1 else ("slice", "payload")
     for entry in entries:
-        same(f"{name}, {entry} by {most}, states", lines, c_lines(program, data, entry, most, "states"))
+        same(f"{name}, {entry} by {most}, states", lines, c_lines(program, data, entry, most, "states", number))
 
 
 # States of numbers in and out of their ranges
@@ -130,11 +149,19 @@ def compare_refusals(program, count):
         receiver.place = rng.choice((0, 1, 2, 3, 3, 31, length, length + 2, length + 3))
         receiver.picture = rng.choice((0, 0xCC, 0xF1, 0xC3))
         receiver.check = rng.choice((0, 0, 255))
+        # Marks beyond the twentieth are refused; a code under way need not be marked
+        receiver.marks = rng.choice((0, 1, ALL_MARKS, ALL_MARKS, 699_050, ALL_MARKS + 1, 2**31 + 128, 2**32 - 1))
         given += receiver.place.to_bytes(2, "big")
         given += bytes([receiver.kind, receiver.picture, receiver.part, receiver.due, receiver.check])
+        given += receiver.marks.to_bytes(4, "big")
         ours.append(str(receiver.refusal()))
     same("refusals", ours, c_lines(program, bytes(given), "refusals"))
     return Counter(ours)
+
+
+# How often each answer came
+def told(answers):
+    return f"{sum(answers.values())} answers: " + ", ".join(f"{answers[a]} of {a}" for a in sorted(answers))
 
 
 def built(folder, name, *arguments):
@@ -157,9 +184,18 @@ def main():
         for name, data in streams:
             compare_lines(program, name, data, answers)
             read += len(data)
-        print(f"lines: {len(streams)} streams, {read} bytes, {sum(answers.values())} answers:",
-              ", ".join(f"{answers[a]} of {a}" for a in sorted(answers)))
+        print(f"lines: {len(streams)} streams, {read} bytes, {told(answers)}")
         assert set(answers) == {1, 2, 3, *range(11, 23)}
+
+        answers, made = Counter(), 0
+        for seed in range(1, 8):
+            numbers, data = marks_stream(second, seed, 25_000)
+            for number in numbers:
+                compare_lines(program, f"seed {seed}, marks {number}", data, answers, number)
+                compare_states(program, f"seed {seed}, marks {number}", data[:3_000], 1, number)
+                made += 1
+        print(f"marks: {made} receivers, {told(answers)}")
+        assert set(answers) == {1, 2, 3, *range(11, 23), 51}
 
         states = 0
         for name, data, lengths in [

@@ -1,16 +1,30 @@
-"""The input of the program `decode`, and what it must print for it.
+"""The input and the arguments of the program `decode`, and what it must print for them.
 
     python3 tests/decode.py --stream > crates/decode/stdin
+    python3 tests/decode.py --args > crates/decode/args
     python3 tests/decode.py > crates/decode/stdout
+    python3 tests/decode.py --try target/bin/decode
 
-What a part has is what the model of 01's receiver, tests/model/receiver.py, holds at answer 3. The layout
-stands in crates/decode/src/main.rt. Names, and where levels begin, are tables of notice No. 49; the causes of
-quality are request #107's, by their bits. The stream is one after the other of the pieces below, which have
-every picture code, every radar, every value of quality and every answer.
-Each piece is given with the answers that it must get, worked out by hand from 01's table; where the model
-gives others, this ends with an error. "Row" is a row of that table.
+What a part has is what the model of 01's receiver with Request 101, tests/model/receiver.py, holds at answer 3.
+The layout stands in crates/decode/src/main.rt. Names, and where levels begin, are tables of notice No. 49; the
+causes of quality are request #107's, by their bits. The stream is one after the other of the pieces below, which
+have every picture code, every radar, every value of quality and every answer.
+Each piece is given with the answers that it must get, worked out by hand from 01's table, also where a picture of
+it is unmarked; where the model gives others, this ends with an error. "Row" is a row of that table, and 51 is
+Request 101's.
+
+The arguments are the codes of the pictures that are marked, each two hexadecimal digits, upper or lower case; all
+twenty are where there is no argument. Where one is no listed code nothing is decoded, and standard error has for
+each such argument the line
+
+    decode: argument K is no listed picture code: WORD
+
+in which K counts from 1, and WORD is left out where it is longer than 4,095 bytes. With --try, the program that is
+named is given the stream with many lists of arguments, and all that it prints is compared.
 """
 
+import re
+import subprocess
 import sys
 from collections import Counter
 
@@ -18,7 +32,7 @@ sys.dont_write_bytecode = True
 from try_byte_call import altered
 from listen import (EIGHT_RADARS, INTENSITY_ANSWERS, QUALITY_BEGUN, QUALITY_HIGH, QUALITY_LOW, THREE_RADARS,
                             TOP_BEGUN, TOP_TAKEN, data, end, start, whole, with_extra)
-from receiver import SAMPLE_END, SAMPLE_START, Receiver
+from receiver import SAMPLE_END, SAMPLE_START, Receiver, marks_of
 from texts import FE, INTENSITY, OPENING, PICTURES, QUALITY, RADARS, TOP, payload_length
 
 # ---- The notice's tables
@@ -66,6 +80,7 @@ MEANING = {
     20: "wrong check byte",
     21: "not FF",
     22: "end text's FF: status 2 is not the highest mode",
+    51: "a listed code that is unmarked",  # Request 101's words
 }
 
 
@@ -108,62 +123,116 @@ def radars(*codes):
 
 # ---- The pieces, each with its answers
 
+# A piece is its bytes; its answers where its pictures are marked; and by the codes that are not, in rising order,
+# its answers then.
+
+# An undamaged part: each text has an answer. Where the picture is unmarked that is 51, at the picture code, and
+# the bytes behind it are free
+def sound(made, answers, picture=0xCC):
+    return made, answers, {bytes([picture]): (51,) * len(answers)}
+
+
+# Damaged, of the picture `CC`, with the answers where that is unmarked
+def damaged(made, answers, *unmarked):
+    return made, answers, {b"\xCC": unmarked}
+
+
 PIECES = [
-    (bytes(range(256)), ()),  # noise with no part open
-    (SAMPLE_START + SAMPLE_END, (1, 3)),  # 01's sample traffic
+    (bytes(range(256)), (), {}),  # noise with no part open
+    sound(SAMPLE_START + SAMPLE_END, (1, 3)),  # 01's sample traffic
     # An observation: intensity, echo top with nothing between, and after a while quality
-    (whole(INTENSITY, SHOWERS, modes=(1, 2), mode=2, radars=radars(0xA5, 0xA7), picture=0xCC), INTENSITY_ANSWERS),
-    (whole(TOP, TOPS, modes=(1, 2), mode=2, radars=radars(0xA5, 0xA7), picture=0xCC), (1, 2, 3)),
-    (b"\x00\x16\xFD", ()),
-    (whole(QUALITY, CLUTTER, modes=(1, 2), mode=2, radars=radars(0xA5, 0xA7), picture=0xCC), (1, 2, 3)),
+    sound(whole(INTENSITY, SHOWERS, modes=(1, 2), mode=2, radars=radars(0xA5, 0xA7), picture=0xCC),
+          INTENSITY_ANSWERS),
+    sound(whole(TOP, TOPS, modes=(1, 2), mode=2, radars=radars(0xA5, 0xA7), picture=0xCC), (1, 2, 3)),
+    (b"\x00\x16\xFD", (), {}),
+    sound(whole(QUALITY, CLUTTER, modes=(1, 2), mode=2, radars=radars(0xA5, 0xA7), picture=0xCC), (1, 2, 3)),
     # Three radars and eight; a leap day, and the last minute that there is
-    (whole(INTENSITY, STORM, modes=(2, 1, 1), mode=2, radars=THREE_RADARS, picture=0xE0, time="200002291530",
-           clock=16_383), INTENSITY_ANSWERS),
-    (whole(TOP, LOW_TOPS, modes=(1, 2, 3, 1, 2, 3, 1, 2), mode=3, radars=EIGHT_RADARS, picture=0xF1,
-           time="999912312359", clock=0), (1, 2, 3)),
+    sound(whole(INTENSITY, STORM, modes=(2, 1, 1), mode=2, radars=THREE_RADARS, picture=0xE0, time="200002291530",
+                clock=16_383), INTENSITY_ANSWERS, 0xE0),
+    sound(whole(TOP, LOW_TOPS, modes=(1, 2, 3, 1, 2, 3, 1, 2), mode=3, radars=EIGHT_RADARS, picture=0xF1,
+                time="999912312359", clock=0), (1, 2, 3), 0xF1),
     # Data texts that are all zeros; quality with NO ECHO, which has its data text all the same
-    (whole(TOP, bytes(400), picture=0xC0, time="000001010000"), (1, 2, 3)),
-    (start(QUALITY, noecho=True) + QUALITY_DATA + end(QUALITY), (1, 2, 3)),
-    (whole(QUALITY, bytes(100), picture=0xD8), (1, 2, 3)),
-    (whole(QUALITY, b"\x80" * 100, picture=0xE5), (1, 2, 3)),
-    (whole(QUALITY, b"\x40" * 100, picture=0xE4), (1, 2, 3)),
+    sound(whole(TOP, bytes(400), picture=0xC0, time="000001010000"), (1, 2, 3), 0xC0),
+    sound(start(QUALITY, noecho=True) + QUALITY_DATA + end(QUALITY), (1, 2, 3)),
+    sound(whole(QUALITY, bytes(100), picture=0xD8), (1, 2, 3), 0xD8),
+    sound(whole(QUALITY, b"\x80" * 100, picture=0xE5), (1, 2, 3), 0xE5),
+    sound(whole(QUALITY, b"\x40" * 100, picture=0xE4), (1, 2, 3), 0xE4),
     # Every value of quality: as many in one part as it has meshes
-    (whole(QUALITY, QUALITY_LOW, picture=0xD4), (1, 2, 3)),
-    (whole(QUALITY, QUALITY_HIGH, picture=0xD5), (1, 2, 3)),
+    sound(whole(QUALITY, QUALITY_LOW, picture=0xD4), (1, 2, 3), 0xD4),
+    sound(whole(QUALITY, QUALITY_HIGH, picture=0xD5), (1, 2, 3), 0xD5),
     # Every picture code, and every radar alone
-    *((no_echo(INTENSITY, picture=code, clock=100 + i), (1, 3)) for i, code in enumerate(PICTURES)),
-    *((no_echo(TOP, (1 + i % 3,), mode=1 + i % 3, radars=radars(code)), (1, 3)) for i, code in enumerate(RADARS)),
+    *(sound(no_echo(INTENSITY, picture=code, clock=100 + i), (1, 3), code) for i, code in enumerate(PICTURES)),
+    *(sound(no_echo(TOP, (1 + i % 3,), mode=1 + i % 3, radars=radars(code)), (1, 3))
+      for i, code in enumerate(RADARS)),
     # Row 11: an opening in quality payload, and the new text goes on
-    (QUALITY_BEGUN + QUALITY_DATA[:40] + SAMPLE_START + SAMPLE_END, (1, 11, 1, 3)),
+    damaged(QUALITY_BEGUN + QUALITY_DATA[:40] + SAMPLE_START + SAMPLE_END, (1, 11, 1, 3), 51, 51, 51, 51),
     # Row 12: a byte between the texts of a part; then the end text has no part open (row 16)
-    (TOP_TAKEN + b"\x00" + end(TOP), (1, 2, 12, 16)),
+    damaged(TOP_TAKEN + b"\x00" + end(TOP), (1, 2, 12, 16), 51, 51, 51),
     # Rows 13 to 17: no picture code, none of the kinds, a start text while a part is open, a text that is
     # not the due one, another picture code
-    (altered(no_echo(TOP), 6, 0xCD), (13, 16)),
-    (altered(no_echo(TOP), 7, 0x40), (14, 16)),
-    (TOP_BEGUN + no_echo(TOP), (1, 15, 1, 3)),
-    (TOP_BEGUN + end(TOP), (1, 16)),
-    (altered(no_echo(TOP), 46, 0xC0), (1, 17)),
+    damaged(altered(no_echo(TOP), 6, 0xCD), (13, 16), 13, 51),
+    damaged(altered(no_echo(TOP), 7, 0x40), (14, 16), 51, 51),
+    damaged(TOP_BEGUN + no_echo(TOP), (1, 15, 1, 3), 51, 51, 51),
+    damaged(TOP_BEGUN + end(TOP), (1, 16), 51, 51),
+    # ... where that is unmarked: 51, which comes at the code; where only the start's is, no part is open (row 16)
+    (altered(no_echo(TOP), 46, 0xC0), (1, 17), {b"\xC0": (1, 51), b"\xCC": (51, 16), b"\xC0\xCC": (51, 51)}),
     # Row 18: no minute 60, an echo top 9, and quality's bit 7 with a cause beside it
-    (start(TOP, time="199906071260"), (18,)),
-    (TOP_BEGUN + data(TOP, 1, TOPS, {3: 9}) + end(TOP), (1, 18, 16)),
-    *((QUALITY_BEGUN + data(QUALITY, 1, CLUTTER, {place: b}) + end(QUALITY), (1, 18, 16))
+    damaged(start(TOP, time="199906071260"), (18,), 51),
+    damaged(TOP_BEGUN + data(TOP, 1, TOPS, {3: 9}) + end(TOP), (1, 18, 16), 51, 51, 51),
+    *(damaged(QUALITY_BEGUN + data(QUALITY, 1, CLUTTER, {place: b}) + end(QUALITY), (1, 18, 16), 51, 51, 51)
       for place, b in ((3, 0x81), (52, 0xC0), (102, 0xFF))),
     # Row 19: a payload byte too many; row 20: one altered to an allowed one; row 21: the `FF`; row 22: status 2
     # says mode 1, and the radar's mode is 2
-    (QUALITY_BEGUN + with_extra(QUALITY_DATA, 50, 0x05), (1, 19)),
-    (altered(whole(TOP, TOPS), 200, 0x01), (1, 20, 16)),
-    (altered(no_echo(INTENSITY), 79, FE), (1, 21)),
-    (no_echo(TOP, (2,), mode=1), (1, 22)),
+    damaged(QUALITY_BEGUN + with_extra(QUALITY_DATA, 50, 0x05), (1, 19), 51, 51),
+    damaged(altered(whole(TOP, TOPS), 200, 0x01), (1, 20, 16), 51, 51, 51),
+    damaged(altered(no_echo(INTENSITY), 79, FE), (1, 21), 51, 51),
+    damaged(no_echo(TOP, (2,), mode=1), (1, 22), 51, 51),
     # A text that never ends
-    (OPENING + b"\xCC\x10\x00", ()),
+    damaged(OPENING + b"\xCC\x10\x00", (), 51),
 ]
 
-STREAM = b"".join(made for made, _ in PIECES)
+STREAM = b"".join(made for made, _, _ in PIECES)
 assert 40_000 < len(STREAM) < 60_000
 
 
+# The answers to a piece by hand, with these pictures marked
+def by_hand(answers, others, marked):
+    unmarked = bytes(code for code in sorted(set(b"".join(others))) if code not in marked)
+    return others[unmarked] if unmarked else answers
+
+
+# ---- Arguments
+
+# Not in 01's order, in both cases, and `CC` twice. The six that are missing are `C1 C9 D3 D8 E1 F0`
+ARGUMENTS = "e5 cC F1 D5 d4 c0 E0 DC CC c8 C5 d2 E4 C2 c4".split()
+
+
+# The picture code that a word is; None where it is none
+def code_of(word):
+    hexadecimal = re.fullmatch("[0-9A-Fa-f]{2}", word) is not None
+    return int(word, 16) if hexadecimal and int(word, 16) in PICTURES else None
+
+
+# The pictures that are marked by arguments without a wrong one
+def marked_by(words):
+    return bytes(map(code_of, words)) or PICTURES
+
+
+# The lines about wrong arguments
+def complaints(words):
+    for number, word in enumerate(words, 1):
+        if code_of(word) is None:
+            shown = word if len(word.encode()) <= 4_095 else ""
+            yield f"decode: argument {number} is no listed picture code: {shown}"
+
+
 # ---- What must be printed
+
+# The lines at the front; `marked` are the codes of the marked pictures, in any order
+def heading(marked=PICTURES):
+    yield " ".join(["marked pictures", *(f"{code:02X}" for code in PICTURES if code in marked)])
+    yield ""
+
 
 # How many meshes are at each level, or have each value: "Intensity: two meshes a byte", else one
 def meshes(part, grid):
@@ -208,11 +277,13 @@ def totals(found, read):
     yield f"bytes {read}"
 
 
-def decoded():
-    receiver = Receiver()
+# All lines about the stream
+def decoded(marked=PICTURES):
+    receiver = Receiver(marks_of(marked))
     found = Counter()
     read = 0
-    for place, (made, answers) in enumerate(PIECES):
+    yield from heading(marked)
+    for place, (made, answers, others) in enumerate(PIECES):
         got = []
         for b in made:
             part = receiver.part
@@ -223,13 +294,80 @@ def decoded():
                 found[answer] += 1
             if answer == 3:
                 yield from block(found[3], read, part, receiver)
-        assert tuple(got) == answers, f"piece {place}: answers {answers} by hand, {got} by the model"
-    assert set(found) == set(MEANING)
+        wanted = by_hand(answers, others, marked)
+        assert tuple(got) == wanted, f"piece {place}: answers {wanted} by hand, {got} by the model"
     yield from totals(found, read)
+
+
+def in_lines(lines):
+    return "".join(line + "\n" for line in lines)
+
+
+# What the program must print on standard output and on standard error
+def printed(words):
+    wrong = in_lines(complaints(words))
+    return ("" if wrong else in_lines(decoded(marked_by(words)))), wrong
+
+
+# What the arguments above let through: every answer, and several parts of each kind
+def sample():
+    text, _ = printed(ARGUMENTS)
+    assert {int(line.split()[1]) for line in text.split("\n") if line.startswith("answer ")} == set(MEANING)
+    assert all(text.count(f"  kind     {kind}\n") >= 4 for kind in KIND.values())
+    return text
+
+
+# ---- A program tried
+
+# Words that are no listed code: no code, not two digits, no hexadecimal digit. `BG` would be `C0` if `G` were
+# a digit behind `F`
+WRONG = ["00", "C3", "CD", "FF", "CCC", "C", "", "0xCC", "G0", "BG", "C/", "c:", "C`", " CC", "CC ", "-"]
+ALL_CODES = [f"{code:02X}" for code in PICTURES]
+
+TRIED = [
+    [],
+    *([word] for word in ALL_CODES),
+    ALL_CODES,
+    [word.lower() for word in reversed(ALL_CODES)],
+    *(ALL_CODES[:i] + ALL_CODES[i + 1:] for i in (0, 7, 19)),
+    ["CC", "CC"],
+    ["CC", "d2", "cc", "Cc", "cC"],
+    ["d2"],
+    ARGUMENTS,
+    *([word] for word in WRONG),
+    WRONG,
+    ["CC", "C3"],
+    ["C3", "CC"],
+    ["", "CC", ""],
+    [*ALL_CODES, "C3"],
+    ["C" * 4_095],
+    ["C" * 4_096, "CC", "C" * 5_000],
+]
+
+
+# The program run with these arguments: a message for each output that is not as it must be
+def differences(program, words):
+    done = subprocess.run([program, *words], input=STREAM, capture_output=True, timeout=60)
+    outputs = zip(("standard output", "standard error"), (done.stdout, done.stderr), printed(words))
+    for name, found, wanted in outputs:
+        if found != wanted.encode():
+            pairs = zip([*found.split(b"\n"), None], [*wanted.encode().split(b"\n"), None])
+            number, pair = next((n, pair) for n, pair in enumerate(pairs, 1) if pair[0] != pair[1])
+            yield f"{[word[:20] for word in words]}, {name}, line {number}: {pair[0]!r}, wanted {pair[1]!r}"
+
+
+def try_program(program):
+    found = [message for words in TRIED for message in differences(program, words)]
+    print("\n".join([*found, f"{len(TRIED)} lists of arguments, {len(found)} differences"]))
+    return 1 if found else 0
 
 
 if __name__ == "__main__":
     if sys.argv[1:] == ["--stream"]:
         sys.stdout.buffer.write(STREAM)
+    elif sys.argv[1:] == ["--args"]:
+        sys.stdout.buffer.write(in_lines(ARGUMENTS).encode())
+    elif sys.argv[1:2] == ["--try"]:
+        sys.exit(try_program(sys.argv[2]))
     else:
-        sys.stdout.buffer.write("".join(line + "\n" for line in decoded()).encode())
+        sys.stdout.buffer.write(sample().encode())

@@ -7,19 +7,26 @@
 The model, in C under tests/second/, was written from 01 and the requests alone.  It is built
 into a temporary folder with $CC (else cc).  For seed, seed + 1, ... until the
 time is up a stream is made, and many short ones are cut from it (0 to 300
-bytes, at any place).  On each stream the complete outputs are compared:
+bytes, at any place); another is made of parts that some receivers are to take
+and others not (Request 101).  With each stream go numbers that receivers are
+made from: a few marks or many, none, all, or marks beyond the twentieth.  On
+each stream the complete outputs are compared:
 
     listen          from a file, and through a pipe in pieces   second answers
     try_byte_call   from a file                                 second totals
     try_traffic     from a file                                 second traffic
     resend          from a file                                 second resend
-    decode          from a file                                 second traffic, laid out by decode.py
+    decode          from a file, without arguments and with     second traffic with these marks,
+                    random picture codes as arguments           laid out by decode.py
     try_bytes_left  from a file                                 second left
+    try_marks       the numbers and the stream, from a file     second marks
 
-The model is held against itself too: its answers 3 must stand exactly where
-01's definition of an undamaged part, read without a receiver, has a part end
-(`second parts`), and 01's samples must come out right and bytes left count down
-to each text's end (`second samples`).
+The model is held against itself too.  For all twenty marks and for each number,
+its answers 3 must stand exactly where an undamaged part of a marked picture
+ends by the papers' definition, read without a receiver (`second parts`), and
+its answers 51 exactly where a listed code that is unmarked follows an opening.
+01's samples must come out right, bytes left count down to each text's end, and
+marks do what was worked out by hand (`second samples`).
 
 The first difference ends the run with status 1; it is printed with program,
 seed and place, and the stream is kept in a file that is named.  Otherwise the
@@ -30,18 +37,19 @@ The fixed corpus of a program, kept beside its source, is made by
     second generate SEED LENGTH > crates/try_traffic/stdin
     second traffic < crates/try_traffic/stdin > crates/try_traffic/stdout
 
-(and the same with `resend` for crates/resend and `left` for crates/try_bytes_left),
-or in one step by
+(and the same with `resend` for crates/resend, `left` for crates/try_bytes_left, and
+`generate-marks` and `marks` for crates/try_marks), or in one step by
 
     python3 tests/differential.py --corpus SEED LENGTH crates/try_traffic
 
-where the folder's name, try_traffic, resend or try_bytes_left, chooses the program.
+where the folder's name, try_traffic, resend, try_bytes_left or try_marks, chooses the program.
 """
 
 import argparse
 import itertools
 import os
 import random
+import re
 import subprocess
 import sys
 import tempfile
@@ -57,12 +65,17 @@ sys.path.insert(0, str(HERE))
 import decode
 
 MODEL_OF = {"listen": "answers", "try_byte_call": "totals", "try_traffic": "traffic", "resend": "resend",
-            "decode": "traffic", "try_bytes_left": "left"}
-CORPORA = ("try_traffic", "resend", "try_bytes_left")  # the programs that --corpus serves
+            "decode": "traffic", "try_bytes_left": "left", "try_marks": "marks"}
+# The programs that --corpus serves, and what makes their inputs
+CORPORA = {"try_traffic": "generate", "resend": "generate", "try_bytes_left": "generate", "try_marks": "generate-marks"}
 KIND_NAMES = {1: "intensity", 2: "echo top", 3: "quality"}
 RUN_TIMEOUT = 120  # seconds for one run of a program: far above what any needs
 SHORT_STREAMS = 12  # cut from each long one
 MOST_PIECES = 400  # of a stream sent through a pipe
+MOST_INPUT = 65_536  # bytes that try_marks reads
+PICTURES = bytes.fromhex("C0C1C2C4C5C8C9CCD2D3D4D5D8DCE0E1E4E5F0F1")  # in 01's order, that of the marks
+ALL_MARKS = (1 << len(PICTURES)) - 1
+CODE_BEHIND_OPENING = re.compile(rb"\x16\x16\x16\x10\x02\xFD(?=(.))", re.DOTALL)  # it may begin an opening itself
 
 
 class Difference(Exception):
@@ -205,14 +218,62 @@ def held_part(held, grid):
     return part, SimpleNamespace(header=header, modes=places[20:], grid=b"".join(bytes([b]) * n for n, b in runs))
 
 
-def decoded(traffic, size):
-    """What `decode` must print of a stream of so many bytes, by the model's lines of traffic."""
-    lines, out, found = iter(traffic.decode().split("\n")), [], Counter()
+def decoded(traffic, size, marked):
+    """What `decode` must print of so many bytes with these pictures marked, by the model's lines of traffic."""
+    lines, out, found = iter(traffic.decode().split("\n")), [*decode.heading(marked)], Counter()
     for call, read, answer in (line.split() for line in lines if line.startswith("byte ")):
         found[int(answer)] += 1
         if answer == "3":
             out += decode.block(found[3], int(read), *held_part(next(lines), next(lines)))
     return "".join(line + "\n" for line in [*out, *decode.totals(found, size)]).encode()
+
+
+def marks_of(number):
+    """The marks of a receiver made from this number."""
+    return number if number <= ALL_MARKS else 0
+
+
+def some_number(chooser):
+    """What a receiver is made from: few marks or many, one, none or all, and some beyond the twentieth."""
+    marks = sum(1 << i for i in chooser.sample(range(20), chooser.randint(0, 20)))
+    beyond = 1 << chooser.randint(20, 31)
+    edges = (0, ALL_MARKS, 1 << chooser.randrange(20), beyond, beyond | marks, chooser.getrandbits(32))
+    return chooser.choice(edges) if chooser.random() < 0.4 else marks
+
+
+def some_numbers(chooser):
+    return [some_number(chooser) for _ in range(chooser.randint(1, 4))]
+
+
+def with_numbers(numbers, stream):
+    """The input of try_marks, with as much of the stream as it reads."""
+    head = bytes([len(numbers)]) + b"".join(number.to_bytes(4, "big") for number in numbers)
+    return head + stream[:MOST_INPUT - len(head)]
+
+
+def without_numbers(data):
+    """The numbers and the stream of such an input."""
+    head = 1 + 4 * data[0]
+    return [int.from_bytes(data[at:at + 4], "big") for at in range(1, head, 4)], data[head:]
+
+
+def some_codes(chooser):
+    """Arguments of decode: picture codes in any order and case, one twice now and then."""
+    codes = chooser.choices(PICTURES, k=chooser.randint(1, 24))
+    return [chooser.choice((f"{code:02X}", f"{code:02x}")) for code in codes]
+
+
+def unmarked_behind_openings(stream, number):
+    """The lines of answer 51, by definition: an opening always starts a text, whose code comes next."""
+    marks = marks_of(number)
+    unmarked = bytes(code for i, code in enumerate(PICTURES) if not marks >> i & 1)
+    found = CODE_BEHIND_OPENING.finditer(stream)
+    return b"".join(b"%d 51\n" % (match.end() + 1) for match in found if match[1] in unmarked)
+
+
+def lines_of(answers, answer):
+    """The listening lines with this answer."""
+    return b"".join(line + b"\n" for line in answers.split(b"\n") if line.endswith(b" %d" % answer))
 
 
 class Trial:
@@ -223,23 +284,29 @@ class Trial:
         self.programs = programs
         self.folder = folder
         self.stream_file = folder / "stream"
+        self.marks_file = folder / "marks"
         self.streams = 0
         self.bytes = 0
+        self.numbers = 0
         self.answers = Counter()
+        self.answers_of_numbers = Counter()
         self.complete = Counter()
 
-    def check_model(self, traffic):
-        """Complete exactly where an undamaged part ends, and only there."""
-        ends = b"".join(line[5:] + b"\n" for line in traffic.split(b"\n")
-                        if line.startswith(b"byte ") and line.endswith(b" 3"))
-        parts = run_model([self.model, "parts"], self.stream_file)
-        compare("the model against itself", ends, parts, ("its receiver", "its definition of a part"))
+    def check_model(self, stream, number):
+        """Complete exactly where an undamaged part of a marked picture ends, and 51 exactly at unmarked codes."""
+        answers = run_model([self.model, "answers", number], self.stream_file)
+        parts = run_model([self.model, "parts", number], self.stream_file)
+        compare(f"the model against itself, marks {number}", lines_of(answers, 3), parts,
+                ("its receiver", "its definition of a part"))
+        compare(f"the model against itself, marks {number}", lines_of(answers, 51),
+                unmarked_behind_openings(stream, number), ("its receiver", "unmarked codes behind openings"))
+        return Counter(int(line.split()[1]) for line in answers.splitlines())
 
-    def count(self, stream, traffic):
+    def count(self, stream):
         """Figures, from the model's lines; each answer stands there twice."""
         self.streams += 1
         self.bytes += len(stream)
-        lines = iter(traffic.split(b"\n"))
+        lines = iter(run_model([self.model, "traffic"], self.stream_file).split(b"\n"))
         for line in lines:
             if line.startswith(b"byte "):
                 answer = int(line.split()[2])
@@ -248,29 +315,51 @@ class Trial:
                     held = next(lines).split()
                     self.complete[int(held[1]), int(held[4])] += 1
 
-    def check(self, stream, chooser):
+    def check_decode(self, program, size, words):
+        """decode with these arguments; all twenty are marked where there is none."""
+        marked = bytes(int(word, 16) for word in words) or PICTURES
+        marks = sum(1 << i for i, code in enumerate(PICTURES) if code in marked)
+        traffic = run_model([self.model, "traffic", marks], self.stream_file)
+        compare(" ".join(["decode", *words]), run([program, *words], self.stream_file),
+                decoded(traffic, size, marked))
+
+    def check_program(self, name, program, stream, chooser):
+        """One program on one stream."""
+        if name == "decode":
+            self.check_decode(program, len(stream), [])
+            self.check_decode(program, len(stream), some_codes(chooser))
+            return
+        given = self.marks_file if name == "try_marks" else self.stream_file
+        model = run_model([self.model, MODEL_OF[name]], given)
+        compare(name, run([program], given), model)
+        if name == "listen":
+            piped = run_piped(program, pieces(chooser, stream), self.folder)
+            compare("listen through a pipe", piped, model)
+
+    def check(self, stream, numbers, chooser):
         """All comparisons on one stream."""
         self.stream_file.write_bytes(stream)
-        traffic = run_model([self.model, "traffic"], self.stream_file)
-        self.check_model(traffic)
+        self.marks_file.write_bytes(with_numbers(numbers, stream))
+        self.check_model(stream, ALL_MARKS)
+        for number in numbers:
+            self.answers_of_numbers += self.check_model(stream, number)
+        self.numbers += len(numbers)
         for name, program in self.programs.items():
-            model = run_model([self.model, MODEL_OF[name]], self.stream_file)
-            if name == "decode":
-                model = decoded(model, len(stream))
-            compare(name, run([program], self.stream_file), model)
-            if name == "listen":
-                piped = run_piped(program, pieces(chooser, stream), self.folder)
-                compare("listen through a pipe", piped, model)
-        self.count(stream, traffic)
+            self.check_program(name, program, stream, chooser)
+        self.count(stream)
 
 
 def streams_of(model, seed, length, chooser):
-    """A long stream and short ones cut from it, each with its place in the long one."""
+    """Two long streams and short ones cut from them, each with numbers, its long stream's name and its place there."""
     stream = run_model([model, "generate", seed, chooser.randint(length // 2, length + length // 2)])
-    yield 0, stream
+    yield stream, some_numbers(chooser), "generate", 0
+    size = chooser.randint(0, min(length, MOST_INPUT - 256))
+    numbers, bought = without_numbers(run_model([model, "generate-marks", seed, size]))
+    yield bought, numbers, "generate-marks", 0
     for _ in range(SHORT_STREAMS):
-        at = chooser.randint(0, len(stream))
-        yield at, stream[at:at + chooser.randint(0, 300)]
+        name, cut = chooser.choice((("generate", stream), ("generate-marks", bought)))
+        at = chooser.randint(0, len(cut))
+        yield cut[at:at + chooser.randint(0, 300)], some_numbers(chooser), name, at
 
 
 def keep(stream, seed):
@@ -286,11 +375,12 @@ def go_through(trial, options):
     deadline = time.monotonic() + options.seconds
     for seed in itertools.count(options.seed):
         chooser = random.Random(seed)
-        for at, stream in streams_of(trial.model, seed, options.length, chooser):
+        for stream, numbers, name, at in streams_of(trial.model, seed, options.length, chooser):
             try:
-                trial.check(stream, chooser)
+                trial.check(stream, numbers, chooser)
             except Difference as difference:
-                print(f"DIFFERENCE at seed {seed}, bytes {at} to {at + len(stream)} of its stream\n"
+                print(f"DIFFERENCE at seed {seed}, bytes {at} to {at + len(stream)} of its stream of `{name}`,\n"
+                      f"  with the numbers {numbers}\n"
                       f"  {difference}\n  the stream is kept in {keep(stream, seed)}")
                 return seed, False
             if time.monotonic() >= deadline:
@@ -299,12 +389,14 @@ def go_through(trial, options):
 
 def print_figures(trial, first, last, seconds):
     """What the run has seen, so that a run without events does not pass unnoticed."""
-    answers = ", ".join(f"{answer}: {count:,}" for answer, count in sorted(trial.answers.items()))
+    answers, of_numbers = (", ".join(f"{answer}: {count:,}" for answer, count in sorted(counts.items()))
+                           for counts in (trial.answers, trial.answers_of_numbers))
     kinds = ", ".join(f"{name} {trial.complete[part, 0]:,} and {trial.complete[part, 1]:,} with NO ECHO"
                       for part, name in KIND_NAMES.items())
     print(f"programs: {', '.join(trial.programs)}")
     print(f"seeds {first} to {last}, {trial.streams:,} streams, {trial.bytes:,} bytes, {seconds:.1f} seconds")
     print(f"answers: {answers}")
+    print(f"answers with the marks of {trial.numbers:,} numbers: {of_numbers}")
     print(f"complete parts: {kinds}")
 
 
@@ -324,8 +416,8 @@ def write_corpus(model, seed, length, folder):
     """The fixed input of a program and the output that the model expects."""
     folder = Path(folder)
     if folder.name not in CORPORA or not folder.is_dir():
-        fail(f"{folder} is not a folder named {', '.join(CORPORA[:-1])} or {CORPORA[-1]}")
-    (folder / "stdin").write_bytes(run_model([model, "generate", seed, length]))
+        fail(f"{folder} is not a folder with one of the names {', '.join(CORPORA)}")
+    (folder / "stdin").write_bytes(run_model([model, CORPORA[folder.name], seed, length]))
     (folder / "stdout").write_bytes(run_model([model, MODEL_OF[folder.name]], folder / "stdin"))
 
 

@@ -3,10 +3,10 @@
     python3 tests/listen.py --stream > listen.bin
     python3 tests/listen.py > listen.txt
 
-The lines are those of the model of 01's receiver, tests/model/receiver.py: "one line for each answer
-but 0: bytes read so far, a space, the answer". The stream is one after the other of the pieces below.
-Each piece is given with the answers that it must get, worked out by hand from 01's table; where the
-model gives others, this ends with an error. "Row" is a row of that table.
+The lines are those of the model of 01's receiver with all twenty marks, tests/model/receiver.py: "one line
+for each answer but 0: bytes read so far, a space, the answer". The stream is one after the other of the
+pieces below. Each piece is given with the answers that it must get, worked out by hand from 01's table;
+where the model gives others, this ends with an error. "Row" is a row of that table.
 """
 
 import sys
@@ -15,8 +15,8 @@ from pathlib import Path
 sys.dont_write_bytecode = True
 sys.path.insert(0, str(Path(__file__).resolve().parent / "model"))
 import texts
-from receiver import SAMPLE_END, SAMPLE_START, listen
-from texts import CONTROL, FD, FE, INTENSITY, OPENING, QUALITY, TOP
+from receiver import ALL_MARKS, SAMPLE_END, SAMPLE_START, listen
+from texts import CONTROL, FD, FE, INTENSITY, OPENING, PICTURES, QUALITY, TOP
 
 PIECES = []
 
@@ -415,6 +415,9 @@ piece(bytes(i * i * 11 // 3 % 256 for i in range(3000)))
 # An intensity part whose payload has `16` everywhere, and all control bytes
 busy = (CONTROL + b"\x16" * 7 + b"\x10\x02" * 3) * 1200
 piece(whole(INTENSITY, busy[:20_000], picture=0xE0), *INTENSITY_ANSWERS)
+# The listening program has all twenty marks (Request 101): a part of every picture is complete
+for code in PICTURES:
+    piece(start(INTENSITY, picture=code, noecho=True) + end(INTENSITY, picture=code), 1, 3)
 piece(CONTROL + b"\x16\x16")
 piece(start(INTENSITY) + one + two[:1000], 1, 2)
 
@@ -440,7 +443,7 @@ if __name__ == "__main__":
     if sys.argv[1:] == ["--stream"]:
         sys.stdout.buffer.write(STREAM)
     else:
-        lines = listen(STREAM)
+        lines = listen(STREAM, ALL_MARKS)
         check_pieces(lines)
         for read, answer in lines:
             print(read, answer)

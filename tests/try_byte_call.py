@@ -3,10 +3,10 @@
     python3 tests/try_byte_call.py --stream > crates/try_byte_call/stdin
     python3 tests/try_byte_call.py > crates/try_byte_call/stdout
 
-The counts are those of the model of 01's receiver, tests/model/receiver.py: for each answer but 0 that
-came, the answer, a space, how many bytes had it. The stream is one after the other of the pieces below,
-short parts, undamaged and damaged. Each piece is given with the answers that it must get, worked out by
-hand from 01's table; where the model gives others, this ends with an error. "Row" is a row of that table.
+The counts are those of the model of 01's receiver with all twenty marks, tests/model/receiver.py: for each
+answer but 0 that came, the answer, a space, how many bytes had it. The stream is one after the other of the
+pieces below, short parts, undamaged and damaged. Each piece is given with the answers that it must get, worked
+out by hand from 01's table; where the model gives others, this ends with an error. "Row" is a row of that table.
 """
 
 import sys
@@ -15,7 +15,7 @@ from collections import Counter
 sys.dont_write_bytecode = True
 from listen import (QUALITY_BEGUN, QUALITY_HIGH, QUALITY_LOW, QUALITY_PAYLOAD, THREE_RADARS, TOP_BEGUN,
                             TOP_PAYLOAD, TOP_TAKEN, data, end, start, whole, with_extra)
-from receiver import SAMPLE_END, SAMPLE_START, Receiver
+from receiver import ALL_MARKS, SAMPLE_END, SAMPLE_START, Receiver
 from texts import FD, FE, FF, INTENSITY, OPENING, QUALITY, TOP
 
 NO_ECHO = start(INTENSITY, noecho=True) + end(INTENSITY)
@@ -78,7 +78,7 @@ assert len(STREAM) < 12_000
 
 # How many bytes had each answer
 def counts():
-    receiver = Receiver()
+    receiver = Receiver(ALL_MARKS)
     found = Counter()
     for number, (made, answers) in enumerate(PIECES):
         got = tuple(filter(None, map(receiver.byte, made)))

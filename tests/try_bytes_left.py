@@ -3,10 +3,10 @@
     python3 tests/try_bytes_left.py | diff - crates/try_bytes_left/stdout
     python3 tests/try_bytes_left.py STREAM
 
-The stream is crates/try_bytes_left/stdin, or the file that is named. A fresh receiver is given it with the
-byte call, and after each byte the service is asked for bytes left. The lines are those of the models of 01's
-receiver and, with Request 106, of its services, tests/model/receiver.py and tests/model/services.py; the same
-lines come from the second implementation, `second left`. All numbers are decimal.
+The stream is crates/try_bytes_left/stdin, or the file that is named. A fresh receiver with all twenty marks is
+given it with the byte call, and after each byte the service is asked for bytes left. The lines are those of the
+models of 01's receiver and, with Request 106, of its services, tests/model/receiver.py and
+tests/model/services.py; the same lines come from the second implementation, `second left`. All numbers are decimal.
 
     TOTAL ANSWER BEFORE AFTER SUM       for each byte that is answered other than 0: bytes read so far, with
                                         this one; its answer; bytes left before it and after it
@@ -23,7 +23,7 @@ from pathlib import Path
 sys.dont_write_bytecode = True
 ROOT = Path(__file__).resolve().parent.parent
 sys.path.insert(0, str(ROOT / "tests/model"))
-from receiver import Receiver
+from receiver import ALL_MARKS, Receiver
 from services import Refused, bytes_left
 
 
@@ -44,7 +44,7 @@ def may_be(answer, before, after):
 
 # The lines, each as a tuple of its numbers
 def lines(stream):
-    receiver = Receiver()
+    receiver = Receiver(ALL_MARKS)
     total, before, added = 0, bytes_left(receiver), 0
     for total, b in enumerate(stream, 1):
         answer = receiver.byte(b)

@@ -13,11 +13,14 @@ NO ECHO), 8 modes, and Adler-32 of the grid, begun at 0: all 0 after a drop.
     byte TAKEN ANSWER       from the byte call; TAKEN counts the record's bytes taken so far
     held CONTENTS           after answer 3
     dropped CONTENTS        after an answer above 10
-    refused CALL NUMBER COUNT SEEN PLACE KIND PICTURE PART DUE CHECK SEEN-COUNT CONTENTS
+    refused CALL NUMBER COUNT SEEN PLACE KIND PICTURE PART DUE CHECK SEEN-COUNT MARKS CONTENTS
+    answered, and the same  where a call of those is answered and not refused
 
-Of the last, CALL is 1 for the byte call and 2 for the slice call; what follows COUNT is the state returned
-and the grid left, which a refusal leaves as they were. Each record is run with the cut at K = 0 to 6 and
-then byte by byte; state and grid go on from run to run.
+Of the last two, CALL is 1 for the byte call and 2 for the slice call, NUMBER is the refusal or the answer, and
+COUNT the bytes taken; what follows is the state returned and the grid left, which a refusal leaves as they were.
+Both calls are given the one byte `FD`, which would begin a text, for the bytes seen are the control bytes. Each
+record is run with the cut at K = 0 to 6 and then byte by byte; state and grid go on from run to run. All
+receivers have all twenty marks, but where a line of the last two kinds says others.
 """
 
 import sys
@@ -27,8 +30,8 @@ from pathlib import Path
 sys.dont_write_bytecode = True
 sys.path.insert(0, str(Path(__file__).resolve().parent / "model"))
 import texts
-from receiver import NO_HEADER, NO_MODES, Receiver
-from texts import CONTROL, GRID, INTENSITY, OPENING, QUALITY, TOP
+from receiver import ALL_MARKS, NO_HEADER, NO_MODES, Receiver
+from texts import CONTROL, FD, GRID, INTENSITY, OPENING, QUALITY, TOP
 
 # ---- The records, each with the answers that it must get, worked out by hand from 01's table
 
@@ -137,6 +140,8 @@ def byte_run(receiver, data):
 
 # ---- Refusals
 
+# What the slice call is given, and of this one byte the byte call
+GIVEN = bytes([FD])
 # Place, kind, picture code, part, due text, check byte, count of the bytes seen
 FREE = (0, 0, 0, 0, 0, 0, 5)
 SIX_SEEN = (0, 0, 0, 0, 0, 0, 6)
@@ -155,35 +160,60 @@ STATES = [
     (3, 0x11, 0xCC, 0, 0, 0, 5),  # a data kind with no part open
     (3, 0x2F, 0xCC, 2, 1, 0, 5),  # an end kind where data is due
 ]
+# Request 101, in the state FREE: all marks and none, which are answered, and the least and the greatest number with
+# marks beyond the twentieth, refused with 2
+MARKS = ((ALL_MARKS, 0), (0, 0), (1_048_576, 2), (4_294_967_295, 2))
 # Refused with 1, whatever the state
 LENGTHS = (0, 19_999, 20_001)
 
 
-# A refused call takes nothing and leaves all as it was. The bytes seen are printed as one number, the newest
-# byte lowest.
-def refusal_lines(receiver, grid, frame, wanted):
+# A receiver in a made-up state, with header and modes of one that has received, and a grid of its own
+def made_up(receiver, grid, frame, marks):
     tried = Receiver()
     tried.place, tried.kind, tried.picture, tried.part, tried.due, tried.check, count = frame
     tried.seen = CONTROL.rjust(count, b"\0")
-    tried.header, tried.modes, tried.grid = receiver.header, receiver.modes, grid
-    assert tried.refusal() == wanted
+    tried.marks = marks
+    tried.header, tried.modes, tried.grid = receiver.header, receiver.modes, bytearray(grid)
+    return tried
+
+
+# The bytes seen are printed as one number, the newest byte lowest
+def state(tried):
+    return (int.from_bytes(tried.seen), tried.place, tried.kind, tried.picture, tried.part, tried.due, tried.check,
+            len(tried.seen), tried.marks, *contents(tried))
+
+
+# Both calls in one state. A refused call takes nothing and leaves all as it was; `wanted` is the refusal, or 0.
+# With no part open the byte is an opening's last, and so quiet: place 1, its check byte, and all else as it was
+def call_lines(receiver, grid, frame, wanted, marks=ALL_MARKS):
     for call in (1, 2):
-        line("refused", call, wanted, 0, int.from_bytes(tried.seen), *frame, *contents(tried))
+        tried = made_up(receiver, grid, frame, marks)
+        assert tried.refusal() == wanted
+        if wanted != 0:
+            line("refused", call, wanted, 0, *state(tried))
+            continue
+        before = contents(tried)
+        answer, count = (tried.byte(GIVEN[0]), 1) if call == 1 else tried.slice(GIVEN)
+        assert (answer, count, tried.seen) == (0, 1, OPENING[1:]) and contents(tried) == before
+        assert (tried.place, tried.check, tried.marks) == (1, FD, marks)
+        line("answered", call, answer, count, *state(tried))
 
 
 def make_lines():
-    receiver = Receiver()
+    receiver = Receiver(ALL_MARKS)
     for data, answers in RECORDS:
         line("part", len(data))
         runs = [cut_run(receiver, data, k) for k in range(7)] + [byte_run(receiver, data)]
         assert all(run == answers for run in runs), f"answers {answers} by hand, {runs} by the model"
     assert any(receiver.grid)
     for frame in STATES:
-        refusal_lines(receiver, receiver.grid, frame, 2)
+        call_lines(receiver, receiver.grid, frame, 2)
+    for marks, wanted in MARKS:
+        call_lines(receiver, receiver.grid, FREE, wanted, marks)
     # "1" comes before "2". The grid is all sevens
     for length in LENGTHS:
         for frame in (FREE, SIX_SEEN):
-            refusal_lines(receiver, b"\x07" * length, frame, 1)
+            call_lines(receiver, b"\x07" * length, frame, 1)
 
 
 if __name__ == "__main__":

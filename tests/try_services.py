@@ -2,8 +2,8 @@
 
     python3 tests/try_services.py > crates/try_services/stdout
 
-They are those of the model of 01's services with Request 106, tests/model/services.py. The samples and calls
-stand here and in the program, crates/try_services/src. A sum is Adler-32, begun at 0.
+They are those of the model of 01's services with Requests 101 and 106, tests/model/services.py. The samples and
+calls stand here and in the program, crates/try_services/src. A sum is Adler-32, begun at 0.
 
     grid LENGTH SUM                     a grid, which the lines below it are about
     mesh NUMBER level LEVEL             the level of a mesh
@@ -18,10 +18,11 @@ stand here and in the program, crates/try_services/src. A sum is Adler-32, begun
                                         behind it, without its last byte, and no byte of it
     text K LENGTH SUM                   the payload of data text K of the bytes in the line above
     taken TAKEN PLACE left BYTES        bytes left after so many bytes of the part in the heading above, which
-                                        a fresh receiver is given byte by byte, where the state has this
-                                        place; with 0 bytes taken, of a fresh receiver
-    state PLACE KIND PICTURE PART DUE CHECK SEEN-COUNT left BYTES
-                                        bytes left in a state of these numbers
+                                        a fresh receiver with all twenty marks is given byte by byte, where
+                                        the state has this place; with 0 bytes taken, of a fresh receiver
+    state PLACE KIND PICTURE PART DUE CHECK SEEN-COUNT MARKS set COUNT left BYTES
+                                        how many of the twenty marks are set, and bytes left, in a state of
+                                        these numbers
 
 Where a service refuses, `refused` and the row of 01 stand in place of the last word and its number. In an
 overlay's line they stand in place of `laid`, and the sum is that of the third grid as it was.
@@ -35,7 +36,7 @@ sys.dont_write_bytecode = True
 sys.path.insert(0, str(Path(__file__).resolve().parent / "model"))
 import services
 import texts
-from receiver import Receiver
+from receiver import ALL_MARKS, Receiver
 from services import Refused
 from texts import CONTROL, FF, GRID, INTENSITY, QUALITY, TOP, WriterHeader
 
@@ -283,13 +284,13 @@ def by_hand(ends, taken):
 
 # Of the three parts, after each byte that is answered and at places that are shown; by hand after each byte
 def left():
-    answer(("taken", 0, 0), "left", services.bytes_left(Receiver()), 0)
+    answer(("taken", 0, 0), "left", services.bytes_left(Receiver(ALL_MARKS)), 0)
     last = []
     for part, ends in ENDS.items():
         data = made(part)
         assert len(data) == ends[-1]
         line("part", part, len(data), adler(data))
-        receiver = Receiver()
+        receiver = Receiver(ALL_MARKS)
         for taken, b in enumerate(data, 1):
             # The figure 1 stands right before each text's `FF`, and nowhere else
             assert (services.bytes_left(receiver) == 1) == (taken in ends)
@@ -305,51 +306,65 @@ def left():
     assert bytes(last) == bytes.fromhex("10 11 12 13 14 15 16 17 18 19 1A 1F 20 21 2F 30 31 3F")
 
 
-# Place, kind, picture code, part, due text, check byte, count of the bytes seen, and bytes left by hand
+# Place, kind, picture code, part, due text, check byte, count of the bytes seen, marks; how many marks are set, and
+# bytes left, by hand
 STATES = [
     # The longest text: its first place with the kind read, within, and its last
-    (3, 0x11, 0xCC, 1, 1, 0, 5, 2_003),
-    (1000, 0x15, 0xCC, 1, 5, 0, 5, 1_006),
-    (2005, 0x1A, 0xCC, 1, 10, 0, 5, 1),
+    (3, 0x11, 0xCC, 1, 1, 0, 5, ALL_MARKS, 20, 2_003),
+    (1000, 0x15, 0xCC, 1, 5, 0, 5, ALL_MARKS, 20, 1_006),
+    (2005, 0x1A, 0xCC, 1, 10, 0, 5, ALL_MARKS, 20, 1),
     # Before the kind is read, with no part open and with one
-    (1, 0, 0, 0, 0, 0, 5, 0),
-    (2, 0, 0xCC, 0, 0, 0, 5, 0),
-    (2, 0, 0xCC, 1, 3, 0, 5, 0),
+    (1, 0, 0, 0, 0, 0, 5, ALL_MARKS, 20, 0),
+    (2, 0, 0xCC, 0, 0, 0, 5, ALL_MARKS, 20, 0),
+    (2, 0, 0xCC, 1, 3, 0, 5, ALL_MARKS, 20, 0),
     # The other lengths: a start text before its `FF`, another before its `FE`, an end text with its kind just
     # read, data of echo top and of quality before their `FE` and their `FF`
-    (34, 0x10, 0xCC, 0, 0, 0, 5, 1),
-    (32, 0x30, 0xCC, 0, 0, 0, 5, 3),
-    (3, 0x1F, 0xCC, 1, 11, 0, 5, 32),
-    (403, 0x21, 0xCC, 2, 1, 0, 5, 3),
-    (405, 0x21, 0xCC, 2, 1, 0, 5, 1),
-    (103, 0x31, 0xCC, 3, 1, 0, 5, 3),
-    (105, 0x31, 0xCC, 3, 1, 0, 5, 1),
+    (34, 0x10, 0xCC, 0, 0, 0, 5, ALL_MARKS, 20, 1),
+    (32, 0x30, 0xCC, 0, 0, 0, 5, ALL_MARKS, 20, 3),
+    (3, 0x1F, 0xCC, 1, 11, 0, 5, ALL_MARKS, 20, 32),
+    (403, 0x21, 0xCC, 2, 1, 0, 5, ALL_MARKS, 20, 3),
+    (405, 0x21, 0xCC, 2, 1, 0, 5, ALL_MARKS, 20, 1),
+    (103, 0x31, 0xCC, 3, 1, 0, 5, ALL_MARKS, 20, 3),
+    (105, 0x31, 0xCC, 3, 1, 0, 5, ALL_MARKS, 20, 1),
     # Between texts: with a part open, and with none
-    (0, 0, 0, 1, 3, 0, 5, 0),
-    (0, 0, 0, 0, 0, 0, 5, 0),
+    (0, 0, 0, 1, 3, 0, 5, ALL_MARKS, 20, 0),
+    (0, 0, 0, 0, 0, 0, 5, ALL_MARKS, 20, 0),
+    # Request 101: no mark; the picture under way marked, and unmarked, which does not make a state impossible;
+    # every second mark, from `C1` on
+    (0, 0, 0, 0, 0, 0, 5, 0, 0, 0),
+    (17, 0x10, 0xCC, 0, 0, 0, 5, 128, 1, 18),
+    (17, 0x10, 0xCC, 0, 0, 0, 5, 1, 1, 18),
+    (0, 0, 0, 0, 0, 0, 5, 699_050, 10, 0),
     # Not possible: past a text's last place, place 3 with no kind, a picture code at place 0, a data kind with
     # no part open, an end kind where data is due, six bytes seen; past the last place of quality's data and of
     # echo top's
-    (2006, 0x1A, 0xCC, 1, 10, 0, 5, Refused(2)),
-    (35, 0x10, 0xCC, 0, 0, 0, 5, Refused(2)),
-    (65_535, 0x10, 0xCC, 0, 0, 0, 5, Refused(2)),
-    (3, 0, 0xCC, 0, 0, 0, 5, Refused(2)),
-    (0, 0, 0xCC, 0, 0, 0, 5, Refused(2)),
-    (3, 0x11, 0xCC, 0, 0, 0, 5, Refused(2)),
-    (3, 0x2F, 0xCC, 2, 1, 0, 5, Refused(2)),
-    (0, 0, 0, 0, 0, 0, 6, Refused(2)),
-    (106, 0x31, 0xCC, 3, 1, 0, 5, Refused(2)),
-    (406, 0x21, 0xCC, 2, 1, 0, 5, Refused(2)),
+    (2006, 0x1A, 0xCC, 1, 10, 0, 5, ALL_MARKS, 20, Refused(2)),
+    (35, 0x10, 0xCC, 0, 0, 0, 5, ALL_MARKS, 20, Refused(2)),
+    (65_535, 0x10, 0xCC, 0, 0, 0, 5, ALL_MARKS, 20, Refused(2)),
+    (3, 0, 0xCC, 0, 0, 0, 5, ALL_MARKS, 20, Refused(2)),
+    (0, 0, 0xCC, 0, 0, 0, 5, ALL_MARKS, 20, Refused(2)),
+    (3, 0x11, 0xCC, 0, 0, 0, 5, ALL_MARKS, 20, Refused(2)),
+    (3, 0x2F, 0xCC, 2, 1, 0, 5, ALL_MARKS, 20, Refused(2)),
+    (0, 0, 0, 0, 0, 0, 6, ALL_MARKS, 20, Refused(2)),
+    (106, 0x31, 0xCC, 3, 1, 0, 5, ALL_MARKS, 20, Refused(2)),
+    (406, 0x21, 0xCC, 2, 1, 0, 5, ALL_MARKS, 20, Refused(2)),
+    # ... and marks beyond the twentieth, which are not counted: the twenty-first, with the first too, the last of
+    # 32, and all
+    (0, 0, 0, 0, 0, 0, 5, 1_048_576, 0, Refused(2)),
+    (0, 0, 0, 0, 0, 0, 5, 1_048_577, 1, Refused(2)),
+    (0, 0, 0, 0, 0, 0, 5, 2_147_483_648, 0, Refused(2)),
+    (0, 0, 0, 0, 0, 0, 5, 4_294_967_295, 20, Refused(2)),
 ]
 
 
 def states():
-    for *frame, wanted in STATES:
+    for *frame, marked, wanted in STATES:
         receiver = Receiver()
         (receiver.place, receiver.kind, receiver.picture, receiver.part, receiver.due, receiver.check,
-         seen) = frame
+         seen, receiver.marks) = frame
         receiver.seen = CONTROL.rjust(seen, b"\0")
-        answer(("state", *frame), "left", services.bytes_left(receiver), wanted)
+        assert receiver.marks_set() == marked
+        answer(("state", *frame, "set", marked), "left", services.bytes_left(receiver), wanted)
 
 
 if __name__ == "__main__":

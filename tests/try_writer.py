@@ -16,8 +16,8 @@ a number's two bytes the high one first:
     bytes 34 and 35   the payload's length
     from byte 36 on   the payload
 
-The output is all `AA` before the writer has it. What was written goes to a fresh receiver, by as many slice
-calls as that takes. The lines of a call, in decimal:
+The output is all `AA` before the writer has it. What was written goes to a fresh receiver with all twenty marks,
+by as many slice calls as that takes. The lines of a call, in decimal:
 
     wrote LENGTH SUM          the length of what was written
     took COUNT ANSWER         one for each slice call
@@ -37,7 +37,7 @@ from pathlib import Path
 sys.dont_write_bytecode = True
 sys.path.insert(0, str(Path(__file__).resolve().parent / "model"))
 import texts
-from receiver import Receiver
+from receiver import ALL_MARKS, Receiver
 from texts import INTENSITY, QUALITY, TOP, WriterHeader
 
 CALLS, LINES = [], []
@@ -142,7 +142,7 @@ def held(receiver):
 # Slice calls of a fresh receiver on what was written, until it is used up, and their lines. Header, modes and
 # payload are those given; `mode`, `noecho` and `answers` are by hand
 def read_back(data, header, modes, payload, mode, noecho, answers):
-    receiver, found, at = Receiver(), [], 0
+    receiver, found, at = Receiver(ALL_MARKS), [], 0
     while at < len(data):
         answer, count = receiver.slice(data, at)
         at += count

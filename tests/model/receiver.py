@@ -1,17 +1,22 @@
-"""01-scope.md, section "The receiver", as a class.
+"""01-scope.md, section "The receiver", with Request 101, as a class.
 
-Written from that paper alone, on texts.py, the model of its section "A text": nothing here is taken
-from the library or from its definitions. The rows of 01's table are cited by their number. What
-stands in quotes is 01's.
+Written from these papers alone, on texts.py, the model of 01's section "A text": nothing here is taken
+from the library or from its definitions. The rows of 01's table are cited by their number, and 51 is
+Request 101's. What stands in quotes is 01's, and after "Request 101:" that request's.
 
-Run as a program, it tries 01's sample traffic, and on small streams "complete" against texts.py.
+Run as a program, it tries 01's sample traffic, the marks by hand, and on small streams "complete" and row
+51 against texts.py.
 """
 
 import sys
 
 sys.dont_write_bytecode = True
 import texts
-from texts import CONTROL, END, FD, FE, FF, GRID, KINDS, OPENING, START
+from texts import CONTROL, END, FD, FE, FF, GRID, KINDS, OPENING, PICTURES, START
+
+# Request 101: "twenty marks, one for each picture code in 01's order, as one number with `C0` at bit 0"
+MARK = {code: 1 << i for i, code in enumerate(PICTURES)}
+ALL_MARKS = sum(MARK.values())
 
 # "header and modes": "all else 0"
 NO_HEADER = texts.Header(time=(0,) * 12, radars=(0,) * 8, clock=0, picture=0, mode=0, noecho=False)
@@ -28,6 +33,17 @@ DIGIT = {}
 for _i, _letter in enumerate(texts.TIME_FORM):
     if _letter != ".":
         DIGIT[8 + _i] = len(DIGIT)
+
+
+# The marks of these picture codes, and of no others
+def marks_of(codes):
+    return sum(MARK[code] for code in set(codes))
+
+
+# The marks of a fresh receiver. Request 101: "marks beyond the twentieth; a receiver asked for with such has
+# no mark at all"
+def fresh_marks(number):
+    return number if 0 <= number <= ALL_MARKS else 0
 
 
 # `values` with `value` at `i`
@@ -48,19 +64,26 @@ def due_after(part, text, noecho):
 
 
 class Receiver:
-    """The state as 01 lists it, and the grid: "a lent slice of 20,000 bytes"."""
+    """The state as 01 and Request 101 list it, and the grid: "a lent slice of 20,000 bytes"."""
 
-    __slots__ = ("seen", "place", "kind", "picture", "part", "due", "check", "header", "modes", "grid")
+    __slots__ = ("marks", "seen", "place", "kind", "picture", "part", "due", "check", "header", "modes", "grid")
 
-    # "Fresh: nothing seen, place 0, no part, all else 0, grid all 0."
-    def __init__(self, grid=None):
+    # "Fresh: nothing seen, place 0, no part, all else 0, grid all 0." Request 101: "A fresh receiver is made
+    # from marks and keeps them for good", so nothing below sets them; "the listening program's has all
+    # twenty", and so has one that is asked for without saying
+    def __init__(self, marks=ALL_MARKS, grid=None):
+        self.marks = fresh_marks(marks)
         self.grid = bytearray(GRID) if grid is None else grid
         assert len(self.grid) == GRID
         self.seen = b""  # "the last bytes seen (0 to 5 of them)"
         self._drop()
 
+    # Request 101: "a call tells, in any state, how many of the twenty marks are set"
+    def marks_set(self):
+        return sum(self.marks & mark != 0 for mark in MARK.values())
+
     # "Dropped: state and grid as fresh, but the last bytes seen are kept, the byte just taken among
-    # them."
+    # them." As fresh with the same marks
     def _drop(self):
         self.place = 0  # "0 between texts, else the count of bytes taken from `FD` on"
         self.kind = 0  # "0 until read and at place 0"
@@ -109,6 +132,10 @@ class Receiver:
             # Row 13
             if not texts.is_picture_code(b):
                 return self._dropped(13)
+            # Row 51. Request 101: "a listed code that is unmarked, at block byte 1 after 13, dropping as 13
+            # does"
+            if self.marks & MARK[b] == 0:
+                return self._dropped(51)
             self.picture = b
             self.check ^= b
             self.place = 2
@@ -246,6 +273,10 @@ class Receiver:
         dues = {0: (0,), 1: (*range(1, 11), END), 2: (1, END), 3: (1, END)}
         if len(self.seen) > 5 or self.due not in dues.get(self.part, ()):
             return 2
+        # Request 101: "Refusal 2 also covers marks beyond the twentieth". A picture under way that is
+        # unmarked it does not name
+        if not 0 <= self.marks <= ALL_MARKS:
+            return 2
         if self.place <= 2:  # "at most 2 before the kind is read"; "each 0 until read and at place 0"
             if self.kind != 0 or self.place < 0:
                 return 2
@@ -264,9 +295,9 @@ class Receiver:
 
 
 # What the listening program prints: "one line for each answer but 0: bytes read so far, a space, the
-# answer", here as pairs
-def listen(data):
-    byte = Receiver().byte
+# answer", here as pairs. With other marks than all twenty, what it would print if its receiver had these
+def listen(data, marks=ALL_MARKS):
+    byte = Receiver(marks).byte
     found = []
     for read, b in enumerate(data, 1):
         answer = byte(b)
@@ -283,6 +314,19 @@ def part_at_end(data):
         if len(tail) == length and tail.startswith(OPENING) and texts.undamaged_part(bytes(tail)):
             return bytes(tail)
     return None
+
+
+# The same of a receiver with these marks. Request 101: "exactly the undamaged parts of marked pictures are
+# called complete"
+def complete_at_end(data, marks):
+    part = part_at_end(data)
+    return part if part is not None and marks & MARK[texts.header_of_part(part).picture] else None
+
+
+# The bytes end with an opening and a listed code that is unmarked. Row 51 is answered exactly there, for an
+# opening always "starts a text at place 1", and no opening ends with a picture code
+def unmarked_at_end(data, marks):
+    return data[-7:-1] == OPENING and data[-1] in MARK and marks & MARK[data[-1]] == 0
 
 
 # 01's start and end text: S and the text with `D4`
@@ -310,15 +354,141 @@ def _refusals():
     assert receiver.refusal() == 1
 
 
-# Byte by byte: no state comes about that row 2 would refuse; complete exactly when the bytes end with
-# an undamaged part, and then with its header, modes and grid
-def _against_texts(data):
-    receiver = Receiver()
+# ---- Request 101 by hand
+
+# All of a receiver but its grid, and its grid's bytes
+def _state(receiver):
+    return [getattr(receiver, name) for name in Receiver.__slots__[:-1]] + [bytes(receiver.grid)]
+
+
+# The receiver after these bytes
+def _after(data, marks):
+    receiver = Receiver(marks)
+    for b in data:
+        receiver.byte(b)
+    return receiver
+
+
+# NO ECHO, so a start and an end text of 40 bytes each; the picture code is a text's seventh byte
+def _short_part(picture):
+    return b"".join(texts.make_text(bytes([FD, picture]) + text[7:-3]) for text in (SAMPLE_START, SAMPLE_END))
+
+
+# The three texts of a quality part of this picture, of 40, 111 and 40 bytes
+def _quality_texts(picture):
+    header = texts.Header((1, 9, 9, 9, 0, 6, 0, 7, 1, 2, 1, 0), (0xA5, *(0,) * 7), 9983, picture, 1, False)
+    part = texts.make_part(texts.QUALITY, header, (1, *(0,) * 7), bytes(range(0x1D, 0x81)))
+    return part[:40], part[40:151], part[151:]
+
+
+# "`C0 C1 C2 C4 C5 C8 C9 CC D2 D3 D4 D5 D8 DC E0 E1 E4 E5 F0 F1`", counted by hand from 0; numbers of marks,
+# and what is made of those that are none
+def _mark_numbers():
+    counted = {0xC0: 0, 0xC1: 1, 0xC2: 2, 0xC4: 3, 0xC5: 4, 0xC8: 5, 0xC9: 6, 0xCC: 7, 0xD2: 8, 0xD3: 9, 0xD4: 10,
+               0xD5: 11, 0xD8: 12, 0xDC: 13, 0xE0: 14, 0xE1: 15, 0xE4: 16, 0xE5: 17, 0xF0: 18, 0xF1: 19}
+    assert ALL_MARKS == 1_048_575 and marks_of(b"\xC0") == 1 and marks_of(b"\xF1\xCC\xF1") == 524_288 + 128
+    for code, bit in counted.items():
+        part, only = _short_part(code), 2 ** bit
+        for marks in (only, ALL_MARKS):
+            assert listen(part, marks) == [(40, 1), (80, 3)]
+        for marks in (0, ALL_MARKS - only):
+            assert listen(part, marks) == [(7, 51), (47, 51)]
+    for number, count in ((0, 0), (1, 1), (524_288, 1), (699_050, 10), (ALL_MARKS, 20)):
+        assert Receiver(number).marks == number and Receiver(number).marks_set() == count
+    # Beyond the twentieth, with none, some and all of the twenty beside: how many of these are set
+    beyond = ((1_048_576, 0), (1_048_577, 1), (1_048_704, 1), (2_097_151, 20), (2 ** 31, 0), (2 ** 32 - 1, 20))
+    for number, count in beyond:
+        assert _state(Receiver(number)) == _state(Receiver(0)) and Receiver(number).marks_set() == 0
+        assert listen(_short_part(0xCC), number) == [(7, 51), (47, 51)]
+        receiver = Receiver(128)
+        receiver.marks = number
+        assert receiver.marks_set() == count and receiver.refusal() == 2
+        receiver.place = 65_535  # "in any state"
+        assert receiver.marks_set() == count
+        receiver.grid = bytearray(GRID + 1)
+        assert receiver.refusal() == 1
+
+
+# Row 51 among the others, of a receiver with the mark of `CC` alone, which is 128
+def _row_51():
+    begun, data_text, end, other = *_quality_texts(0xCC), _quality_texts(0xC0)[1]
+    # "after 13": a code that is not listed, whatever the marks
+    for b in sorted(set(range(256)) - set(PICTURES)):
+        for marks in (0, 128, ALL_MARKS):
+            assert listen(OPENING + bytes([b]), marks) == [(7, 13)]
+    # Text by text, and quiet between: no byte of the part behind its picture code is looked at
+    assert listen(begun + data_text + end, 128) == [(40, 1), (151, 2), (191, 3)]
+    assert listen(begun + data_text + end, ALL_MARKS - 128) == [(7, 51), (47, 51), (158, 51)]
+    # In a data text of an open part, before 17, which comes at block byte 2; the end text has no part open
+    assert listen(begun + other + end, 128 + 1) == [(40, 1), (48, 17), (159, 16)]
+    assert listen(begun + other + end, 128) == [(40, 1), (47, 51), (159, 16)]
+    # ... and before 15, 16 and 14, which come there too
+    for kind, answer in ((0x30, 15), (0x3F, 16), (0x40, 14)):
+        assert listen(begun + OPENING + bytes([0xC0, kind]), 128 + 1) == [(40, 1), (48, answer)]
+        assert listen(begun + OPENING + bytes([0xC0, kind]), 128)[1:] == [(47, 51)]
+    # "dropping as 13 does": in both, as fresh with the same marks, but for the bytes seen
+    for b, answer in ((0xC0, 51), (0xCD, 13)):
+        receiver, fresh = _after(begun + data_text + OPENING, 128), Receiver(128)
+        assert receiver.part == texts.QUALITY and any(receiver.grid) and receiver.place == 1
+        assert receiver.byte(b) == answer
+        fresh.seen = bytes([0x16, 0x10, 0x02, FD, b])
+        assert _state(receiver) == _state(fresh) and receiver.marks == 128
+    # 12 comes before it, and the opening is found all the same, for "the last bytes seen are kept"
+    assert listen(begun + b"\x16" + other, 128) == [(40, 1), (44, 12), (48, 51)]
+    # A picture under way that is unmarked comes about by no list of calls. It is not refused, and goes on
+    receiver = _after(begun[:7], 128)
+    receiver.marks = 1
+    assert receiver.refusal() == 0 and list(map(receiver.byte, begun[7:])) == [0] * 32 + [1]
+    # ... but its next text does not
+    assert [receiver.byte(b) for b in data_text[:7]] == [0] * 6 + [51]
+
+
+# "An opening is looked for among the last six bytes always, .. before every other check"
+def _openings_and_51():
+    begun, data_text, _, other = *_quality_texts(0xCC), _quality_texts(0xC0)[0]
+    # Row 11, and the new text is unmarked: both are answered, each at its byte
+    assert listen(begun + data_text[:40] + other, 128) == [(40, 1), (86, 11), (87, 51)]
+    assert listen(begun + data_text[:40] + other, 129) == [(40, 1), (86, 11), (120, 1)]
+    # Behind an unmarked code an opening follows at once, or in what is left of the unmarked text
+    assert listen(OPENING + b"\xC0" + begun, 128) == [(7, 51), (47, 1)]
+    assert listen(other[:30] + begun, 128) == [(7, 51), (70, 1)]
+    # The control bytes seen at place 1 come about by no list of calls: row 11 and not 13, and it goes on
+    receiver = Receiver(0)
+    receiver.seen, receiver.place, receiver.check = CONTROL, 1, FD
+    assert receiver.refusal() == 0 and receiver.byte(FD) == 11 and receiver.place == 1
+    assert receiver.byte(0xCC) == 51
+
+
+# Rows 11 and 15, which go on, and answers 1 to 3 leave the marks as they were. "Finding the way back holds from
+# an undamaged start text of a marked picture, against a fresh receiver with the same marks": what came before the
+# start text, and the answers within it but its own
+def _marks_stay():
+    begun, data_text, end = _quality_texts(0xCC)
+    fronts = {b"": (), begun: (15,), begun + data_text[:40]: (11,), begun + data_text: (15,), begun[:20]: (18,),
+              begun[:11]: (18,), begun + data_text + end: (), OPENING: (13,), OPENING + b"\xC0": (), CONTROL: ()}
+    for front, answers in fronts.items():
+        receiver, alone = _after(front, 128), Receiver(128)
+        assert tuple(filter(None, map(receiver.byte, begun))) == (*answers, 1)
+        assert tuple(filter(None, map(alone.byte, begun))) == (1,)
+        for b in data_text + end:
+            assert _state(receiver) == _state(alone) and receiver.marks == 128
+            assert receiver.byte(b) == alone.byte(b)
+        assert _state(receiver) == _state(alone) and receiver.marks == 128
+
+
+# ---- Against texts.py
+
+# Byte by byte: no state comes about that row 2 would refuse, and the marks stay; 51 exactly at an unmarked code;
+# complete exactly when the bytes end with an undamaged part of a marked picture, and then with its header, modes
+# and grid
+def _against_texts(data, marks=ALL_MARKS):
+    receiver = Receiver(marks)
     completes = 0
     for read, b in enumerate(data, 1):
         answer = receiver.byte(b)
-        assert receiver.refusal() == 0
-        part = part_at_end(data[:read]) if b == FF else None
+        assert receiver.refusal() == 0 and receiver.marks == marks
+        assert (answer == 51) == unmarked_at_end(data[max(0, read - 7):read], marks)
+        part = complete_at_end(data[:read], marks) if b == FF else None
         assert (answer == 3) == (part is not None)
         if part is not None:
             assert receiver.header == texts.header_of_part(part)
@@ -328,8 +498,8 @@ def _against_texts(data):
     return completes
 
 
-# Parts of the three kinds; then the short ones with one byte altered, each place in turn: none of
-# these is complete
+# Parts of the three kinds, of the picture whose mark is 524,288; then the short ones with one byte altered,
+# each place in turn: none of these is complete
 def _parts():
     header = texts.Header(
         time=(2, 0, 0, 0, 0, 2, 2, 9, 2, 3, 5, 9),
@@ -346,15 +516,21 @@ def _parts():
         payload = bytes(allowed[part][i * i % len(allowed[part])] for i in range(texts.payload_length(part)))
         whole.append(texts.make_part(part, header, modes, payload))
         short.append(texts.make_part(part, header._replace(noecho=True), modes, payload))
-    assert _against_texts(b"".join(whole + short)) == 6
+    for marks, completes in ((ALL_MARKS, 6), (524_288, 6), (ALL_MARKS - 524_288, 0)):
+        assert _against_texts(b"".join(whole + short), marks) == completes
     for data in short:
         for i, b in enumerate(data):
             for other in (b ^ 1, b ^ 0x10, b ^ 0x80, FD, 0x16):
                 altered = data[:i] + bytes([other]) + data[i + 1:]
-                assert _against_texts(altered) == (altered == data)
+                for marks in (ALL_MARKS, 524_288):
+                    assert _against_texts(altered, marks) == (altered == data)
 
 
 if __name__ == "__main__":
     _samples()
     _refusals()
+    _mark_numbers()
+    _row_51()
+    _openings_and_51()
+    _marks_stay()
     _parts()

@@ -1,10 +1,12 @@
-"""01-scope.md, section "Services", with Requests 106 and 110, as plain functions.
+"""01-scope.md, section "Services", with Requests 101, 106 and 110, as plain functions.
 
 Written from these papers alone, on texts.py and receiver.py, the models of 01's sections "A text" (with
-Request 107) and "The receiver": nothing here is taken from the library or from its definitions. A grid is
-bytes; a mesh number, a level and a clock are numbers. A service gives its value, or `Refused` with the row of
-01's table: "A service's refusal carries no value." What stands in quotes is 01's, and after "Request 106:" or
-"Request 110:" that request's; 106's bytes left take the place of what 01 leaves free.
+Request 107) and "The receiver" (with Request 101): nothing here is taken from the library or from its
+definitions. A grid is bytes; a mesh number, a level and a clock are numbers. A service gives its value, or
+`Refused` with the row of 01's table: "A service's refusal carries no value." What stands in quotes is 01's, and
+after "Request 106:" or "Request 110:" that request's; 106's bytes left take the place of what 01 leaves free.
+Request 101 makes more states impossible. Which bytes are an undamaged part it leaves to 01, so that a stored part
+of any picture has its payload, whatever a receiver's marks.
 
 Run as a program, it tries what the papers' figures settle by hand, and Request 110's claim on random grids.
 """
@@ -16,7 +18,7 @@ from collections import namedtuple
 
 sys.dont_write_bytecode = True
 import texts
-from receiver import SAMPLE_START, Receiver
+from receiver import ALL_MARKS, SAMPLE_START, Receiver
 from texts import CONTROL, GRID, INTENSITY
 
 Refused = namedtuple("Refused", "row")
@@ -178,12 +180,16 @@ def _payloads():
         assert text_payload(data, k) == b""
     for bytes_given in (b"\x16" + data, data + b"\x16", data[:-1], b""):
         assert text_payload(bytes_given, 1) == b""
+    # Of every picture
+    for picture in texts.PICTURES:
+        data = texts.make_part(texts.TOP, header._replace(picture=picture), (1, *(0,) * 7), bytes(range(8)) * 50)
+        assert text_payload(data, 1) == bytes(range(8)) * 50
 
 
 # Along a start text of 40 bytes: 0 up to and with the picture code, and from the kind on, which is the eighth
 # byte, one fewer with each, down to 1 before the `FF` and 0 after it
 def _left():
-    receiver = Receiver()
+    receiver = Receiver(ALL_MARKS)
     assert bytes_left(receiver) == 0
     left = []
     for b in SAMPLE_START:
@@ -204,9 +210,26 @@ def _left():
     assert bytes_left(receiver) == Refused(2)
 
 
+# Request 101: marks beyond the twentieth are not possible; no mark is, and a picture under way that is unmarked
+def _marks():
+    receiver = Receiver(128)
+    for b in SAMPLE_START[:22]:
+        receiver.byte(b)
+    for marks, wanted in ((128, 18), (ALL_MARKS, 18), (1, 18), (0, 18), (1_048_576, Refused(2)),
+                          (2 ** 32 - 1, Refused(2))):
+        receiver.marks = marks
+        assert bytes_left(receiver) == wanted
+    # With the picture unmarked nothing is under way at the same byte
+    receiver = Receiver(ALL_MARKS - 128)
+    for b in SAMPLE_START[:22]:
+        receiver.byte(b)
+        assert bytes_left(receiver) == 0
+
+
 if __name__ == "__main__":
     _grids()
     _orders()
     _clocks()
     _payloads()
     _left()
+    _marks()

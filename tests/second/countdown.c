@@ -105,7 +105,7 @@ static size_t try_part(expecter *expect, const struct bytes *part, const char *b
     expect(whole, what);
     if (!whole) /* too short, perhaps, to walk along */
         return number;
-    make_fresh(&walk.receiver, &walk.grid);
+    make_fresh(&walk.receiver, &walk.grid, ALL_MARKS);
     walk.bytes = part->data;
     walk.taken = 0;
     bool right = part_counts(&walk, sort);

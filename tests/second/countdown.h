@@ -4,10 +4,7 @@
 #ifndef SECOND_COUNTDOWN_H
 #define SECOND_COUNTDOWN_H
 
-#include <stdbool.h>
-
-/* Is told of each part whether all its figures are right, and what was tried. */
-typedef void expecter(bool right, const char *what);
+#include "samples.h"
 
 void try_countdown(expecter *expect);
 

@@ -231,7 +231,7 @@ static void add_idle(struct stage *s)
     }
 }
 
-void generate(uint64_t seed, size_t length, struct bytes *stream)
+void generate_with(uint64_t seed, const struct habits *habits, size_t length, struct bytes *stream)
 {
     struct stage *s = calloc(1, sizeof *s);
     if (s == NULL) {
@@ -239,9 +239,8 @@ void generate(uint64_t seed, size_t length, struct bytes *stream)
         exit(2);
     }
     s->numbers.state = seed;
+    s->habits = *habits;
     s->stream = stream;
-    for (size_t i = 0; i < FAVOURITES; i++)
-        s->habits.favourites[i] = one_of(&s->numbers, PICTURES, PICTURE_CODES);
     size_t before = stream->length;
     while (stream->length - before < length) {
         draft_part(&s->numbers, &s->habits, &s->one);
@@ -250,4 +249,13 @@ void generate(uint64_t seed, size_t length, struct bytes *stream)
         play(s);
     }
     free(s);
+}
+
+void generate(uint64_t seed, size_t length, struct bytes *stream)
+{
+    struct numbers numbers = {seed};
+    struct habits habits;
+    for (size_t i = 0; i < FAVOURITES; i++)
+        habits.favourites[i] = one_of(&numbers, PICTURES, PICTURE_CODES);
+    generate_with(numbers.state, &habits, length, stream); /* where the numbers have come to */
 }

@@ -1,21 +1,29 @@
 /* second: the second model of 01 and its hostile traffic.
 
-     second generate SEED LENGTH   a stream of LENGTH bytes
-     second answers                01's listening program
-     second totals                 how many bytes had each answer
-     second traffic                answers, and what is held after answer 3
-     second resend                 the parts that 01's writer makes of those held
-     second parts                  undamaged parts by 01's definition alone
-     second left                   bytes left before and after each answer
-     second samples                01's sample traffic tried on this model, and
-                                   what bytes left means
+     second generate SEED LENGTH         a stream of LENGTH bytes
+     second generate-marks SEED LENGTH   numbers of marks, and a stream for them
+     second answers [MARKS]              01's listening program
+     second totals [MARKS]               how many bytes had each answer
+     second traffic [MARKS]              answers, and what is held after answer 3
+     second resend [MARKS]               the parts that 01's writer makes of those held
+     second parts [MARKS]                undamaged parts of marked pictures, by the
+                                         papers' definition alone
+     second left [MARKS]                 bytes left before and after each answer
+     second marks                        receivers with the marks that the input gives
+     second samples                      01's sample traffic tried on this model, what
+                                         bytes left means, and marks
 
-   All but generate and samples read standard input to its end. */
+   All but generate, generate-marks and samples read standard input to its end.
+   MARKS is the number that a fresh receiver is made from, in decimal; where it
+   is not given, all twenty are marked. */
+#include "bought.h"
 #include "bytes.h"
 #include "hostile.h"
+#include "lines.h"
 #include "receiver.h"
 #include "samples.h"
 #include "services.h"
+#include "try_marks.h"
 #include "writer.h"
 
 #include <stdio.h>
@@ -24,26 +32,18 @@
 
 enum { CHUNK = 1 << 16 };
 
-/* One answer other than 0: after how many bytes, of which part, with what held. */
-struct event {
-    unsigned long long offset;
-    int answer;
-    int part; /* the part open before the byte; the one completed at answer 3 */
-    const struct receiver *receiver;
-    const struct grid *grid;
-};
-
 typedef void teller(const struct event *event);
 
-/* Reads standard input through the receiver and tells each answer but 0. */
-static void receive_input(teller *tell)
+/* Reads standard input through a receiver with these marks and tells each
+   answer but 0. */
+static void receive_input(teller *tell, uint32_t marks)
 {
     static struct receiver receiver;
     static struct grid grid;
     static uint8_t chunk[CHUNK];
     struct event event = {0, 0, NO_PART, &receiver, &grid};
     size_t count;
-    make_fresh(&receiver, &grid);
+    make_fresh(&receiver, &grid, marks);
     while ((count = fread(chunk, 1, sizeof chunk, stdin)) > 0)
         for (size_t i = 0; i < count; i++) {
             int part = receiver.part;
@@ -80,69 +80,13 @@ static void print_totals(void)
 
 /* ---- traffic ---- */
 
-/* A space and a number, without printf's cost: a grid may have 20,000 runs. */
-static void add_number(struct bytes *text, char before, unsigned long long number)
-{
-    char digits[24];
-    size_t at = sizeof digits;
-    do
-        digits[--at] = (char)('0' + number % 10);
-    while ((number /= 10) > 0);
-    digits[--at] = before;
-    add_bytes(text, (const uint8_t *)digits + at, sizeof digits - at);
-}
-
-static void add_word(struct bytes *text, const char *word)
-{
-    add_bytes(text, (const uint8_t *)word, strlen(word));
-}
-
-static void add_held(struct bytes *text, const struct event *event)
-{
-    const struct header *header = &event->receiver->header;
-    add_word(text, "held");
-    add_number(text, ' ', (unsigned)event->part);
-    add_number(text, ' ', header->picture);
-    add_number(text, ' ', header->clock);
-    add_number(text, ' ', header->no_echo);
-    add_number(text, ' ', header->mode);
-    for (int i = 0; i < TIME_DIGITS; i++)
-        add_number(text, ' ', header->time[i]);
-    for (int i = 0; i < RADARS; i++)
-        add_number(text, ' ', header->radars[i]);
-    for (int i = 0; i < RADARS; i++)
-        add_number(text, ' ', event->receiver->modes[i]);
-    add_word(text, "\n");
-}
-
-/* The whole grid as longest runs of equal bytes. */
-static void add_grid(struct bytes *text, const uint8_t *grid)
-{
-    add_word(text, "grid");
-    for (size_t at = 0; at < GRID_BYTES;) {
-        size_t run = 1;
-        while (at + run < GRID_BYTES && grid[at + run] == grid[at])
-            run++;
-        add_number(text, ' ', run);
-        add_number(text, 'x', grid[at]);
-        at += run;
-    }
-    add_word(text, "\n");
-}
-
 /* The program compared with this takes each stretch by the byte call and by
    the slice call, which must agree: the same lines under both words. */
 static void tell_traffic(const struct event *event)
 {
     static struct bytes text;
     text.length = 0;
-    add_number(&text, ' ', event->offset);
-    add_number(&text, ' ', (unsigned)event->answer);
-    add_word(&text, "\n");
-    if (event->answer == COMPLETE) {
-        add_held(&text, event);
-        add_grid(&text, event->grid->bytes);
-    }
+    add_event(&text, event);
     fputs("byte", stdout);
     fwrite(text.data, 1, text.length, stdout);
     fputs("slice", stdout);
@@ -169,17 +113,32 @@ static void tell_resent(const struct event *event)
 
 /* ---- parts ---- */
 
-/* "Complete exactly when": the ends of all undamaged parts, found by 01's
-   definition and without a receiver; the same lines as the answers 3. */
-static void print_parts(void)
+static void read_input(struct bytes *all)
 {
     static uint8_t chunk[CHUNK];
-    struct bytes all = {0};
     size_t count;
     while ((count = fread(chunk, 1, sizeof chunk, stdin)) > 0)
-        add_bytes(&all, chunk, count);
+        add_bytes(all, chunk, count);
+}
+
+/* The length of the part that is called complete at its end by Request 101,
+   "exactly the undamaged parts of marked pictures"; 0 for none. */
+static size_t part_called(const uint8_t *bytes, size_t length, uint32_t marks)
+{
+    size_t whole = bytes[0] == OPENING[0] ? undamaged_part(bytes, length) : 0;
+    if (whole > 0 && is_marked(marks_given(marks), bytes[CONTROL_BYTES + AT_PICTURE]))
+        return whole;
+    return 0;
+}
+
+/* The ends of all these, found by definition and without a receiver; the same
+   lines as the answers 3. */
+static void print_parts(uint32_t marks)
+{
+    struct bytes all = {0};
+    read_input(&all);
     for (size_t at = 0; at < all.length; at++) {
-        size_t length = all.data[at] == OPENING[0] ? undamaged_part(all.data + at, all.length - at) : 0;
+        size_t length = part_called(all.data + at, all.length - at, marks);
         if (length > 0)
             printf("%zu %d\n", at + length, COMPLETE);
     }
@@ -215,7 +174,7 @@ static unsigned long long sum_number(const struct sum *sum)
    so far, the answer, what was left before this byte and is left after it, and
    the sum over the figures after every byte so far; at last a line with bytes,
    what is left, and that sum. */
-static void print_left(void)
+static void print_left(uint32_t marks)
 {
     static struct receiver receiver;
     static struct grid grid;
@@ -223,7 +182,7 @@ static void print_left(void)
     struct sum sum = {0, 0};
     unsigned long long total = 0;
     size_t count;
-    make_fresh(&receiver, &grid);
+    make_fresh(&receiver, &grid, marks);
     size_t left = bytes_left(&receiver);
     while ((count = fread(chunk, 1, sizeof chunk, stdin)) > 0)
         for (size_t i = 0; i < count; i++) {
@@ -242,52 +201,94 @@ static void print_left(void)
 
 static int usage(void)
 {
-    fprintf(stderr, "usage: second generate SEED LENGTH\n"
-                    "       second answers | totals | traffic | resend | parts | left  < stream\n"
+    fprintf(stderr, "usage: second generate | generate-marks SEED LENGTH\n"
+                    "       second answers | totals | traffic | resend | parts | left [MARKS]  < stream\n"
+                    "       second marks  < numbers and stream\n"
                     "       second samples\n");
     return 2;
 }
 
+/* A decimal number up to a limit. */
+static bool read_number(const char *word, unsigned long long limit, unsigned long long *number)
+{
+    char *end;
+    *number = strtoull(word, &end, 10);
+    return *word != 0 && *end == 0 && *number <= limit;
+}
+
+/* Cut at any place, as a line may be. */
 static int write_stream(const char *seed, const char *length)
 {
-    char *seed_end, *length_end;
-    unsigned long long number = strtoull(seed, &seed_end, 10);
-    unsigned long long count = strtoull(length, &length_end, 10);
-    if (*seed == 0 || *seed_end != 0 || *length == 0 || *length_end != 0)
+    unsigned long long number, count;
+    if (!read_number(seed, UINT64_MAX, &number) || !read_number(length, SIZE_MAX, &count))
         return usage();
     struct bytes stream = {0};
     generate(number, (size_t)count, &stream);
-    if (count > 0) /* cut at any place, as a line may be */
+    if (count > 0)
         fwrite(stream.data, 1, (size_t)count, stdout);
     free_bytes(&stream);
+    return 0;
+}
+
+/* The same with the numbers before it. */
+static int write_marks(const char *seed, const char *length)
+{
+    unsigned long long number, count;
+    if (!read_number(seed, UINT64_MAX, &number) || !read_number(length, SIZE_MAX, &count))
+        return usage();
+    struct bytes out = {0};
+    size_t head = generate_marks(number, (size_t)count, &out);
+    fwrite(out.data, 1, head + (size_t)count, stdout);
+    free_bytes(&out);
+    return 0;
+}
+
+static int show_marks(void)
+{
+    struct bytes input = {0};
+    read_input(&input);
+    bool right = print_marks(&input);
+    free_bytes(&input);
+    if (!right)
+        fprintf(stderr, "second: not so many numbers as the first byte says\n");
+    return right ? 0 : 2;
+}
+
+static int receive(const char *name, uint32_t marks)
+{
+    if (strcmp(name, "answers") == 0)
+        receive_input(tell_answer, marks);
+    else if (strcmp(name, "traffic") == 0)
+        receive_input(tell_traffic, marks);
+    else if (strcmp(name, "resend") == 0)
+        receive_input(tell_resent, marks);
+    else if (strcmp(name, "parts") == 0)
+        print_parts(marks);
+    else if (strcmp(name, "left") == 0)
+        print_left(marks);
+    else if (strcmp(name, "totals") == 0) {
+        receive_input(count_answer, marks);
+        print_totals();
+    } else
+        return usage();
     return 0;
 }
 
 static int run(int argc, char **argv)
 {
     const char *name = argc > 1 ? argv[1] : "";
+    unsigned long long marks = ALL_MARKS;
     if (strcmp(name, "generate") == 0 && argc == 4)
         return write_stream(argv[2], argv[3]);
-    if (argc != 2)
-        return usage();
-    if (strcmp(name, "samples") == 0)
+    if (strcmp(name, "generate-marks") == 0 && argc == 4)
+        return write_marks(argv[2], argv[3]);
+    if (strcmp(name, "samples") == 0 && argc == 2)
         return run_samples();
-    if (strcmp(name, "answers") == 0)
-        receive_input(tell_answer);
-    else if (strcmp(name, "traffic") == 0)
-        receive_input(tell_traffic);
-    else if (strcmp(name, "resend") == 0)
-        receive_input(tell_resent);
-    else if (strcmp(name, "parts") == 0)
-        print_parts();
-    else if (strcmp(name, "left") == 0)
-        print_left();
-    else if (strcmp(name, "totals") == 0) {
-        receive_input(count_answer);
-        print_totals();
-    } else
+    if (strcmp(name, "marks") == 0 && argc == 2)
+        return show_marks();
+    if (argc == 3 && !read_number(argv[2], UINT32_MAX, &marks))
         return usage();
-    return 0;
+    return argc == 2 || argc == 3 ? receive(name, (uint32_t)marks) : usage();
 }
 
 int main(int argc, char **argv)

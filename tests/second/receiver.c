@@ -11,18 +11,22 @@ static void clear_grid(struct grid *grid)
     grid->used = 0;
 }
 
-void make_fresh(struct receiver *r, struct grid *grid)
+void make_fresh(struct receiver *r, struct grid *grid, uint32_t number)
 {
     memset(r, 0, sizeof *r);
     memset(grid, 0, sizeof *grid);
+    r->marks = marks_given(number);
 }
 
-/* 01's "dropped": state and grid as fresh, the last bytes seen are kept. */
+/* 01's "dropped": state and grid as fresh, the last bytes seen are kept; so
+   are the marks, for a receiver "keeps them for good". */
 static int drop(struct receiver *r, struct grid *grid, int answer)
 {
     uint64_t seen = r->seen;
     unsigned count = r->seen_count;
+    uint32_t marks = r->marks;
     memset(r, 0, sizeof *r);
+    r->marks = marks;
     r->seen = seen;
     r->seen_count = count;
     clear_grid(grid);
@@ -62,10 +66,13 @@ static int take_between(struct receiver *r, struct grid *grid, uint64_t seen_bef
     return QUIET;
 }
 
+/* Block byte 1: row 13, and behind it 51, in every text alike. */
 static int take_picture(struct receiver *r, struct grid *grid, uint8_t byte)
 {
     if (!is_picture_code(byte))
         return drop(r, grid, NO_PICTURE_CODE);
+    if (!is_marked(r->marks, byte))
+        return drop(r, grid, UNMARKED_PICTURE);
     r->picture = byte;
     r->check ^= byte;
     r->place = 2;

@@ -1,7 +1,9 @@
-/* 01, "The receiver": a plain automaton that takes one byte at a time. */
+/* 01, "The receiver", with the marks of Request 101: a plain automaton that
+   takes one byte at a time. */
 #ifndef SECOND_RECEIVER_H
 #define SECOND_RECEIVER_H
 
+#include "marks.h"
 #include "texts.h"
 
 /* 01's answers of the byte call on a grid of 20,000 bytes and a state that
@@ -11,12 +13,14 @@ enum {
     OPENED_IN_TEXT = 11, NOT_DUE_BYTE = 12, NO_PICTURE_CODE = 13, NO_KIND = 14,
     START_IN_PART = 15, NOT_DUE_KIND = 16, OTHER_PICTURE = 17, RULE_BROKEN = 18,
     NO_BLOCK_END = 19, WRONG_CHECK = 20, NO_TEXT_END = 21, NOT_HIGHEST_MODE = 22,
-    LAST_ANSWER = 22
+    UNMARKED_PICTURE = 51,
+    LAST_ANSWER = 51
 };
 
 enum { DUE_END = 11 };
 
 struct receiver {
+    uint32_t marks;     /* of make_fresh; nothing changes them */
     uint64_t seen;      /* the last five bytes, the latest in the lowest eight bits */
     unsigned seen_count; /* 0 to 5 */
     unsigned place;     /* 0 between texts, else bytes taken from FD on */
@@ -36,7 +40,8 @@ struct grid {
     uint8_t bytes[GRID_BYTES];
 };
 
-void make_fresh(struct receiver *r, struct grid *grid);
+/* The number is the marks; with one beyond the twentieth there is none. */
+void make_fresh(struct receiver *r, struct grid *grid, uint32_t number);
 int receive_byte(struct receiver *r, struct grid *grid, uint8_t byte);
 
 #endif

@@ -2,6 +2,7 @@
 
 #include "bytes.h"
 #include "countdown.h"
+#include "marks_samples.h"
 #include "receiver.h"
 #include "services.h"
 #include "texts.h"
@@ -24,8 +25,7 @@ static void expect(bool right, const char *what)
 
 /* ---- the texts of the samples ---- */
 
-/* S, the start text with check byte 4F. */
-static size_t put_s(uint8_t *out)
+size_t put_s(uint8_t *out)
 {
     static const uint8_t head[] = {0xFD, 0xCC, 0x10, 0x00, 0x08, 0x04, 0x4D, 0x7F};
     uint8_t block[SHORT_BLOCK] = {0};
@@ -35,8 +35,7 @@ static size_t put_s(uint8_t *out)
     return put_text(out, block, sizeof block);
 }
 
-/* The end text with check byte D4. */
-static size_t put_e(uint8_t *out)
+size_t put_e(uint8_t *out)
 {
     static const uint8_t head[] = {0xFD, 0xCC, 0x1F, 0x04};
     uint8_t block[SHORT_BLOCK] = {0};
@@ -115,7 +114,7 @@ static void listen_to(const struct bytes *bytes, char *out, size_t room)
     static struct grid grid;
     struct receiver r;
     size_t done = 0;
-    make_fresh(&r, &grid);
+    make_fresh(&r, &grid, ALL_MARKS);
     out[0] = 0;
     for (size_t i = 0; i < bytes->length; i++) {
         int answer = receive_byte(&r, &grid, bytes->data[i]);
@@ -279,7 +278,7 @@ static void try_quality_rewritten(uint8_t byte, const char *what)
     uint8_t part[QUALITY_PART], out[QUALITY_PART] = {0};
     size_t length;
     make_quality(part, byte);
-    make_fresh(&r, &grid);
+    make_fresh(&r, &grid, ALL_MARKS);
     for (size_t i = 0; i < sizeof part; i++)
         receive_byte(&r, &grid, part[i]);
     struct writing again = {QUALITY, &r.header, r.modes, grid.bytes, QUALITY_PAYLOAD};
@@ -308,7 +307,7 @@ static size_t left_after(const struct bytes *bytes)
 {
     static struct grid grid;
     struct receiver r;
-    make_fresh(&r, &grid);
+    make_fresh(&r, &grid, ALL_MARKS);
     for (size_t i = 0; i < bytes->length; i++)
         receive_byte(&r, &grid, bytes->data[i]);
     return bytes_left(&r);
@@ -374,6 +373,7 @@ int run_samples(void)
     try_left_of_s();
     try_left_at_opening();
     try_countdown(expect);
+    try_marks(expect);
     if (wrong_count == 0)
         printf("samples: %d right\n", right_count);
     return wrong_count == 0 ? 0 : 1;

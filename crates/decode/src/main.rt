@@ -1,5 +1,17 @@
-// Decodes a capture of the stream on standard input, to its end. For each part that is complete it
-// prints, at once, a block of lines that says what the part is, and an empty line:
+// Decodes a capture of the stream on standard input, to its end. The arguments are the codes of the
+// pictures that are marked, each two hexadecimal digits in upper or lower case; all twenty are where
+// there is no argument (Request 101). Each argument that is no listed code is named on standard
+// error, and then nothing is read and nothing printed:
+//
+//   decode: argument K is no listed picture code: WORD
+//
+// K counts from 1, and WORD is left out where it is longer than 4,095 bytes. Otherwise it prints
+// first, before anything is read, the marked codes in 01's order, and an empty line:
+//
+//   marked pictures CODE CODE ..
+//
+// For each part that is complete it prints, at once, a block of lines that says what the part is,
+// and an empty line:
 //
 //   part NUMBER complete at byte BYTE
 //     picture  CODE NAME
@@ -19,7 +31,9 @@
 //
 // Codes and quality values are hexadecimal, other numbers decimal. What must be printed for the
 // sample, the file stdout, is made by tests/decode.py from the model of 01.
+mod arguments; // the pictures to mark
 mod counts; // how many meshes are at a level
+mod heading; // the line of the marked pictures
 mod levels; // the lines of levels
 mod line; // words and numbers of the output
 mod names; // names of pictures and radars
@@ -141,9 +155,9 @@ fn read_and_feed(
 
 // A proved loop has to end, and nothing says that the input does: the loop counts its turns down,
 // from a number that no run uses up
-fn feed_all(grid: &mut [u8], buffer: &mut [u8], counts: &mut [u64]) -> FeedResult {
+fn feed_all(marks: u32, grid: &mut [u8], buffer: &mut [u8], counts: &mut [u64]) -> FeedResult {
     let mut fed = FeedResult {
-        state: fresh(),
+        state: fresh(marks),
         total: 0,
         written: true,
         goes_on: true,
@@ -159,17 +173,28 @@ fn feed_all(grid: &mut [u8], buffer: &mut [u8], counts: &mut [u64]) -> FeedResul
     fed
 }
 
-// A write that failed is told on standard error too
-fn main() {
+// Decodes what is read, with these pictures marked, and gives whether all lines are written
+fn decode_input(marks: u32) -> bool {
+    if !heading::first_lines(marks) {
+        return false;
+    }
     let mut grid = [0u8; 20000];
     let mut buffer = io::large_buffer();
-    let mut counts = [0u64; 23];
-    let fed = feed_all(&mut grid, &mut buffer, &mut counts);
-    let mut written = fed.written;
-    if written {
-        written = totals::last_lines(&counts, fed.total);
+    let mut counts = [0u64; totals::PLACES];
+    let fed = feed_all(marks, &mut grid, &mut buffer, &mut counts);
+    if !fed.written {
+        return false;
     }
-    if !written {
+    totals::last_lines(&counts, fed.total)
+}
+
+// Nothing is decoded where an argument is wrong. A write that failed is told on standard error too
+fn main() {
+    let asked = arguments::read();
+    if !asked.right {
+        return;
+    }
+    if !decode_input(asked.marks) {
         io::write_all(
             STDERR_FILENO,
             b"decode: standard output cannot be written\n",

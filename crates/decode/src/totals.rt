@@ -1,9 +1,19 @@
-// How often each answer came: a count for each number to 22, the last of an answer.
+// How often each answer came: a count for each number to 22, and behind them one for 51
+// (Request 101).
 use crate::line::Buffer;
 use crate::line::flush;
 use crate::line::put_byte;
 use crate::line::put_entry;
 use crate::line::put_labelled;
+
+// How many counts there are
+pub const PLACES: usize = 24;
+
+// The answer to an unmarked picture (Request 101)
+const UNMARKED: u8 = 51;
+
+// Where it is counted: behind 22
+const UNMARKED_PLACE: usize = 23;
 
 // A count of 64 bits stays at its end, which no input reaches
 fn one_more(count: u64) -> u64 {
@@ -13,9 +23,18 @@ fn one_more(count: u64) -> u64 {
     u64::MAX
 }
 
+// Where an answer is counted. No number but these is an answer's: any other has no place
+fn place_of(number: u8) -> usize {
+    match number {
+        0..=22 => number as usize,
+        UNMARKED => UNMARKED_PLACE,
+        _ => PLACES,
+    }
+}
+
 // Counts an answer, and gives how often it came
 pub fn counted(counts: &mut [u64], number: u8) -> u64 {
-    let at = number as usize;
+    let at = place_of(number);
     if at < counts.len() {
         counts[at] = one_more(counts[at]);
         return counts[at];
@@ -23,7 +42,7 @@ pub fn counted(counts: &mut [u64], number: u8) -> u64 {
     0
 }
 
-// What an answer says, in the words of 01's table
+// What an answer says, in the words of 01's table and, of 51, of Request 101
 fn put_meaning(out: &mut Buffer, used: usize, number: u8) -> usize {
     put_entry(
         out,
@@ -43,7 +62,8 @@ fn put_meaning(out: &mut Buffer, used: usize, number: u8) -> usize {
         \x13  not FE|\
         \x14  wrong check byte|\
         \x15  not FF|\
-        \x16  end text's FF: status 2 is not the highest mode",
+        \x16  end text's FF: status 2 is not the highest mode|\
+        \x33  a listed code that is unmarked",
         number,
     )
 }
@@ -60,18 +80,18 @@ fn answer_line(out: &mut Buffer, used: usize, number: u8, count: u64) -> usize {
 }
 
 // A line for each answer but 0 that came
-fn answer_lines(out: &mut Buffer, counts: &[u64; 23]) -> usize {
+fn answer_lines(out: &mut Buffer, counts: &[u64; PLACES]) -> usize {
     let mut at = 0;
     let mut number = 1;
     while number <= 22 {
         at = answer_line(out, at, number, counts[number as usize]);
         number += 1;
     }
-    at
+    answer_line(out, at, UNMARKED, counts[UNMARKED_PLACE])
 }
 
 // Writes the lines at the end, and gives whether they are written
-pub fn last_lines(counts: &[u64; 23], total: u64) -> bool {
+pub fn last_lines(counts: &[u64; PLACES], total: u64) -> bool {
     let mut out = io::buffer();
     let answered = answer_lines(&mut out, counts);
     let counted = put_labelled(&mut out, answered, b"bytes ", total, 0);

@@ -3,7 +3,7 @@ use mathlib.Core.Path.{_≡_, refl, sym, ap, _∙_}
 use mir.Val.{boolByte}
 use mathlib.Core.Logic.{_⊎_, inl, inr}
 use mathlib.Core.Bool.{Bool, true, false, cond, not, _&&_, _||_, and-true, and-assoc, or-false, or-assoc, true≢false}
-use mathlib.Core.List.{List, [], _∷_}
+use mathlib.Core.List.{List, [], _∷_, _++_}
 use Prim.Native.Nat.{ℕ, zero, suc, _<_, _-_}
 use native.Mathlib.Omega.{arith}
 use lib.Dec.{eqb, leb, ltb}
@@ -73,6 +73,13 @@ unfolding every
 every-at test [] h i l = absurd (omega arith)
 every-at test (x ∷ xs) h zero l = and-split (test x) (every test xs) h .0
 every-at test (x ∷ xs) h (suc i) l = every-at test xs (and-split (test x) (every test xs) h .1) i (omega arith)
+
+pub every-append : (test : ℕ → Bool) (xs ys : List ℕ) → every test xs ≡ true → every test ys ≡ true → every test (xs ++ ys) ≡ true
+unfolding every
+every-append test [] ys h g = g
+every-append test (x ∷ xs) ys h g =
+    let (a, b) = and-split (test x) (every test xs) h in
+    and-join a (every-append test xs ys b g)
 
 pub every-in : (test : ℕ → Bool) (xs : List ℕ) (b : ℕ) → every test xs ≡ true → isIn b xs ≡ true → test b ≡ true
 unfolding every isIn

@@ -3,6 +3,7 @@
 use libc::STDERR_FILENO;
 use libc::STDIN_FILENO;
 use libc::STDOUT_FILENO;
+use receiver_marks::marks::all_marks;
 use receiver_slice_call::calls::slice_call;
 use receiver_state::answer::number_of;
 use receiver_state::state::State;
@@ -175,7 +176,7 @@ fn feed_all(grid: &mut [u8], buffer: &mut [u8], out: &mut [u8])
     requires { ⌜ 64 ≤ length (now out) ⌝ }
 {
     let mut fed = FeedResult {
-        state: fresh(),
+        state: fresh(all_marks()),
         total: 0,
         goes_on: true,
     };

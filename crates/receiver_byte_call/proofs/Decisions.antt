@@ -13,6 +13,7 @@ use Rattle.text.specs.Text.{EOR, TPAD}
 use Rattle.text.specs.Pictures.{isPictureCode}
 use Rattle.text.specs.Kinds.{isStartKind, isEndKind, blockLength, isKind, kindOf}
 use Rattle.text.specs.Part.{zeros, gridLength}
+use Rattle.receiver_spec.specs.Marks.{isMarked}
 use Rattle.receiver_spec.specs.Seen.{endsOpening, dueByte}
 use Rattle.receiver_spec.specs.Receiver.{step, modeIsHighest}
 use Rattle.receiver_spec.specs.Calls.{answered, partDropped}
@@ -78,7 +79,7 @@ module _ (s : State) (b : ℕ) where
 
   picture-facts : Facts (pictureDecided t b)
   unfolding pictureDecided goesOn onward numberOf isQuiet replyOf answered pushedState
-  picture-facts = either Facts (isPictureCode b) (refl, refl, refl, refl) (lost 13 refl)
+  picture-facts = either Facts (isMarked (s .marks) b) (refl, refl, refl, refl) (either Facts (isPictureCode b) (lost 51 refl) (lost 13 refl))
 
   start-facts : Facts (startDecided t b)
   unfolding startDecided begins numberOf isQuiet replyOf answered pushedState

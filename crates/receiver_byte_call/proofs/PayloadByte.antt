@@ -28,6 +28,7 @@ use Rattle.receiver_state.specs.declared.state.Frame.{Frame}
 use Rattle.receiver_state.specs.declared.state.State.{State}
 use Rattle.receiver_state.specs.declared.answer.Answer.the-variants.{Quiet}
 use Rattle.receiver_state.specs.declared.grid.Effect.the-variants.{Enter}
+use Rattle.receiver_spec.specs.Marks.{areMarks}
 use Rattle.receiver_bytes_seen.proofs.Laws.{length-seen}
 use Rattle.receiver_byte_call.specs.InPayload.{advancedState, isPayloadHere}
 
@@ -62,7 +63,7 @@ unfolding advancedState
 advanced-first s = refl
 
 -- the tests of the definition, as facts
-pub record PayloadByte (f : Frame) (b : ℕ) : Type 0 where
+pub record PayloadByte (f : Frame) (marks b : ℕ) : Type 0 where
   pub past : 3 ≤ f .place
   pub begun : 1 ≤ f .due
   pub ten : f .due ≤ 10
@@ -71,12 +72,14 @@ pub record PayloadByte (f : Frame) (b : ℕ) : Type 0 where
   pub same : f .kind ≡ kindOf (f .part) (f .due)
   pub known : isKind (f .kind) ≡ true
   pub coded : isPictureCode (f .picture) ≡ true
+  pub few : areMarks marks ≡ true
   pub rule : isPayloadByte (f .part) b ≡ true
 
-pub payload-byte-has : (f : Frame) (b : ℕ) → isPayloadHere f b ≡ true → PayloadByte f b
+pub payload-byte-has : (f : Frame) (marks b : ℕ) → isPayloadHere f marks b ≡ true → PayloadByte f marks b
 unfolding isPayloadHere
-payload-byte-has f b h =
-    let (h1, rule) = and-split _ _ h in
+payload-byte-has f marks b h =
+    let (h0, rule) = and-split _ _ h in
+    let (h1, few) = and-split _ _ h0 in
     let (h2, coded) = and-split _ _ h1 in
     let (h3, known) = and-split _ _ h2 in
     let (h4, same) = and-split _ _ h3 in
@@ -93,6 +96,7 @@ payload-byte-has f b h =
       same = eqb-true (f .kind) (kindOf (f .part) (f .due)) same;
       known = known;
       coded = coded;
+      few = few;
       rule = rule;
     }
 
@@ -116,7 +120,7 @@ module _ (k t : ℕ) (number : textNumber k ≡ t) (one : 1 ≤ t) (ten : t ≤ 
   data-here h = simp (h, number, ne-eqb t 0 (omega (arith, one)), ne-eqb t 11 (omega (arith, ten)))
 
 -- part and text number of the kind under way are the part open and the due text, and the block is as long as that part's
-module _ (f : Frame) (b : ℕ) (h : PayloadByte f b) where
+module _ (f : Frame) (marks b : ℕ) (h : PayloadByte f marks b) where
   due-known : isKind (kindOf (f .part) (f .due)) ≡ true
   due-known = subst (λ k. isKind k ≡ true) (h .same) (h .known)
 
@@ -141,7 +145,7 @@ module _ (f : Frame) (b : ℕ) (h : PayloadByte f b) where
   pub short-here : f .place < 2003
   short-here = omega (arith, long-here, block-most (f .kind))
 
-module _ (s : State) (b : ℕ) (h : PayloadByte (s .frame) b) where
+module _ (s : State) (b : ℕ) (h : PayloadByte (s .frame) (s .marks) b) where
   -- refusal 2 lets the state pass
   pub possible-here : isPossible (stateOf s) ≡ true
   unfolding isPossible isDue kindRead fitsPart allOf
@@ -149,15 +153,16 @@ module _ (s : State) (b : ℕ) (h : PayloadByte (s .frame) b) where
       let f = s .frame in
       simp (
         le-leb (length (seenOf (s .seen) (f .count))) 5 (omega (arith, length-seen (s .seen) (f .count), h .five)),
-        ne-eqb (f .part) 0 (part-open f b h),
-        due-known f b h,
+        ne-eqb (f .part) 0 (part-open f (s .marks) b h),
+        due-known f (s .marks) b h,
         ne-eqb (f .due) 0 (omega (arith, h .begun)),
         ne-eqb (f .kind) 0 (not-zero (f .kind) (h .known)),
         le-leb 3 (f .place) (h .past),
-        le-leb (f .place) (blockLength (f .kind) + 2) (omega (arith, long-here f b h)),
+        le-leb (f .place) (blockLength (f .kind) + 2) (omega (arith, long-here f (s .marks) b h)),
         h .coded,
         h .known,
         eq-eqb (f .kind) (kindOf (f .part) (f .due)) (h .same),
+        h .few,
       )
 
   count-here : pushCount (s .frame .count) ≡ 5
@@ -176,7 +181,7 @@ module _ (s : State) (b : ℕ) (h : PayloadByte (s .frame) b) where
       let f = s .frame in
       ap (λ (t : State). decide t b) (sym (advanced-first s))
       ∙ advanced-step s (f .place) (f .check) (s .seen) (f .count) b
-      (no-start (f .kind) (f .due) (number-here f b h) (h .begun) (h .ten))
-      (no-end (f .kind) (f .due) (number-here f b h) (h .begun) (h .ten)) (h .past) (long-here f b h)
-      (subst (λ p. isPayloadByte p b ≡ true) (sym (part-here f b h)) (h .rule))
-      ∙ rw (count-here, number-here f b h)
+      (no-start (f .kind) (f .due) (number-here f (s .marks) b h) (h .begun) (h .ten))
+      (no-end (f .kind) (f .due) (number-here f (s .marks) b h) (h .begun) (h .ten)) (h .past) (long-here f (s .marks) b h)
+      (subst (λ p. isPayloadByte p b ≡ true) (sym (part-here f (s .marks) b h)) (h .rule))
+      ∙ rw (count-here, number-here f (s .marks) b h)

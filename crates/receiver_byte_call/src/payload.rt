@@ -1,4 +1,5 @@
 // A byte inside a payload.
+use receiver_marks::marks::are_marks;
 use receiver_state::state::Frame;
 use receiver_state::state::State;
 use text::payload::is_payload_byte;
@@ -10,10 +11,10 @@ ghost use mathlib.Core.Path.{_≡_};
 ghost use Rattle.receiver_byte_call.specs.InPayload.{advancedState, isPayloadHere};
 
 // Whether a byte is payload of the data text that is under way and due. Where it is, the state is
-// possible (01, row 2); the first tests suffice for a byte outside a payload.
+// possible (01, row 2, and Request 101); the first tests suffice for a byte outside a payload.
 // Notice 49, 4(1)(1-1)(c)(エ) and (d)(ウ), 4(1)(1-2)(c)(エ) and (d)(ウ), 4(2)(c)(エ) and (d)(ウ)
-pub(crate) fn is_payload_here(f: Frame, b: u8) -> bool
-    ensures { λ r. ⌜ r ≡ isPayloadHere f b ⌝ }
+pub(crate) fn is_payload_here(f: Frame, marks: u32, b: u8) -> bool
+    ensures { λ r. ⌜ r ≡ isPayloadHere f marks b ⌝ }
 {
     if f.place < 3 {
         return false;
@@ -33,7 +34,8 @@ pub(crate) fn is_payload_here(f: Frame, b: u8) -> bool
     if f.kind != kind_of(f.part, f.due) {
         return false;
     }
-    is_kind(f.kind) & is_picture_code(f.picture) & is_payload_byte(f.part, b)
+    let framed = is_kind(f.kind) & is_picture_code(f.picture);
+    framed & are_marks(marks) & is_payload_byte(f.part, b)
 }
 
 // The state further on: place, check byte and the bytes seen have moved
@@ -56,5 +58,6 @@ pub fn advanced_state(s: State, place: u16, check: u8, seen: u64, count: u8) -> 
         },
         header,
         modes,
+        marks: s.marks,
     }
 }

@@ -19,21 +19,21 @@ abbrev pub frame : ℕ → ℕ → ℕ → ℕ → ℕ → ℕ → ℕ → Frame
 frame place kind picture part due check count =
     record { place = place; kind = kind; picture = picture; part = part; due = due; check = check; count = count }
 
-abbrev pub state : ℕ → Frame → Header → List ℕ → State
-state seen f h m = record { seen = seen; frame = f; header = h; modes = m }
+abbrev pub state : ℕ → Frame → Header → List ℕ → ℕ → State
+state seen f h m marks = record { seen = seen; frame = f; header = h; modes = m; marks = marks }
 
 abbrev pub decision : State → Answer → Effect → Decision
 decision s a e = record { next = s; answer = a; effect = e }
 
--- header and modes stay
+-- header, modes and marks stay
 unfoldable pub goesOn : State → Frame → Answer → Effect → Decision
-goesOn s f a e = decision (state (s .seen) f (s .header) (s .modes)) a e
+goesOn s f a e = decision (state (s .seen) f (s .header) (s .modes) (s .marks)) a e
 
--- header and modes are 0, and the picture code enters. Notice 49, 4(1)(1-1)(c)(イ)
+-- header and modes are 0, and the picture code enters; the marks stay (Request 101). Notice 49, 4(1)(1-1)(c)(イ)
 unfoldable pub begins : State → Frame → ℕ → Answer → Effect → Decision
-begins s f picture a e = decision (state (s .seen) f (begunHeader picture) noModes) a e
+begins s f picture a e = decision (state (s .seen) f (begunHeader picture) noModes (s .marks)) a e
 
--- dropped: as fresh, but the bytes seen are kept
+-- dropped: as fresh with the same marks (Request 101), but the bytes seen are kept
 unfoldable pub drops : State → ℕ → Decision
 drops s n = begins s (frame 0 0 0 0 0 0 (s .frame .count)) 0 (Dropped n) Clear
 

@@ -15,17 +15,19 @@ pub struct Decision {
     pub effect: Effect,
 }
 
-// Header and modes stay, and the receiver stands elsewhere
+// Header, modes and marks stay, and the receiver stands elsewhere
 pub fn goes_on(s: State, frame: Frame, answer: Answer, effect: Effect) -> Decision
     ensures { λ r. ⌜ r ≡ goesOn s frame answer effect ⌝ }
 {
     let header = s.header;
     let modes = s.modes;
+    let marks = s.marks;
     let next = State {
         seen: s.seen,
         frame,
         header,
         modes,
+        marks,
     };
     Decision {
         next,
@@ -34,7 +36,8 @@ pub fn goes_on(s: State, frame: Frame, answer: Answer, effect: Effect) -> Decisi
     }
 }
 
-// Header and modes are 0, and the picture code enters. Notice 49, 4(1)(1-1)(c)(イ)
+// Header and modes are 0, and the picture code enters; the marks stay (Request 101).
+// Notice 49, 4(1)(1-1)(c)(イ)
 pub fn begins(s: State, frame: Frame, picture: u8, answer: Answer, effect: Effect) -> Decision
     ensures { λ r. ⌜ r ≡ begins s frame picture answer effect ⌝ }
 {
@@ -51,6 +54,7 @@ pub fn begins(s: State, frame: Frame, picture: u8, answer: Answer, effect: Effec
         frame,
         header,
         modes: [0; 8],
+        marks: s.marks,
     };
     Decision {
         next,
@@ -59,7 +63,8 @@ pub fn begins(s: State, frame: Frame, picture: u8, answer: Answer, effect: Effec
     }
 }
 
-// Dropped: state and grid are as fresh, but the bytes seen are kept (01, "Dropped")
+// Dropped: state and grid are as fresh with the same marks, but the bytes seen are kept (01,
+// "Dropped", and Request 101)
 pub fn drops(s: State, n: u8) -> Decision
     ensures { λ r. ⌜ r ≡ drops s n ⌝ }
 {

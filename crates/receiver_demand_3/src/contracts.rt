@@ -8,10 +8,10 @@ use receiver_state::state::fresh;
 ghost use Rattle.receiver_spec.specs.Calls.{byte, slice};
 ghost use Rattle.receiver_demand_3.specs.CodeCalls.{EnsuredFresh, Ensured};
 
-fn fresh_ensured() -> State
-    ensures { λ r. ⌜ EnsuredFresh r ⌝ }
+fn fresh_ensured(marks: u32) -> State
+    ensures { λ r. ⌜ EnsuredFresh marks r ⌝ }
 {
-    fresh()
+    fresh(marks)
 }
 
 fn byte_ensured(state: State, grid: &mut [u8], b: u8) -> CallResult

@@ -30,7 +30,7 @@ module _ (t : State) (g : List ℕ) (b : ℕ) where
   abbrev u : List ℕ
   u = seenOf (t .seen) (t .frame .count)
 
-  pub lost-same : (n : ℕ) → Means g b (drops t n) (R.drops n u)
+  pub lost-same : (n : ℕ) → Means g b (drops t n) (R.drops n (stateOf t) u)
   unfolding drops begins begunHeader numberOf applied
   lost-same n = reads
 

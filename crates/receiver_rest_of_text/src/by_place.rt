@@ -35,6 +35,7 @@ fn block_decided(s: State, b: u8) -> Decision
         frame: f,
         header,
         modes,
+        marks: s.marks,
     };
     goes_on(entered, advanced(f, f.check ^ b), Answer::Quiet, effect)
 }

@@ -59,6 +59,7 @@ fn begun_part(s: State) -> Decision
         frame: f,
         header,
         modes: [0; 8],
+        marks: s.marks,
     };
     goes_on(
         no_modes,

@@ -45,7 +45,7 @@ free-altered n (free1 h r) (here f) = free1 n r
 free-altered n (free1 h r) (there a) = free1 h (free-altered n r a)
 
 -- the three bytes behind a block
-abbrev closing : ℕ → List ℕ
+abbrev pub closing : ℕ → List ℕ
 closing z = EOR ∷ z ∷ TPAD ∷ []
 
 closing-quiet : (w : List ℕ) (z : ℕ) → Quiet w (closing z)
@@ -82,7 +82,7 @@ module _ (rest : List ℕ) (quiet-rest : (w : List ℕ) → Quiet w rest) where
   broken-5 y w n = quiet1 (only-STX y w FD n) (quiet-rest _)
 
 module _ (R : Rules) (L : RuleLaws R) where
-  open Rules R using (Held, blank, isPicture, isKind, isStart, isEnd, long, dueKind, partOf, pictureOf, begin, takes, enter, settle, firstDue, nextDue, closes)
+  open Rules R using (Held, blank, isPicture, noPicture, isKind, isStart, isEnd, long, dueKind, partOf, pictureOf, begin, takes, enter, settle, firstDue, nextDue, closes)
 
   pub not-complete-never : {s u : Machine R} (h : List ℕ) (b : ℕ) (t : List ℕ) → NotComplete R s (h ++ (b ∷ t)) u → move R (run R s h) b .answer ≢ 3
   unfolding run
@@ -190,7 +190,7 @@ module _ (R : Rules) (L : RuleLaws R) where
       by-if Q (endsOpening (m .seen) b) (λ _. by-if Q (eqb (m .place) 0) (λ _. kept tt refl) (λ _. none tt refl))
       (λ _. by-if Q (eqb (m .place) 0)
       (λ _. by-if Q (eqb (m .part) 0) (λ _. none tt refl) (λ _. by-if Q (eqb b (dueByte (m .seen))) (λ _. kept tt refl) (λ _. none tt refl)))
-      (λ _. by-if Q (eqb (m .place) 1) (λ _. by-if Q (isPicture b) (λ _. kept tt refl) (λ _. none tt refl))
+      (λ _. by-if Q (eqb (m .place) 1) (λ _. by-if Q (isPicture b) (λ _. kept tt refl) (λ _. record { unended = L .no-picture b; unbegun = λ _. refl }))
       (λ _. by-if Q (eqb (m .place) 2) (λ _. plain-kind m b)
       (λ _. by-if Q (ltb (m .place) (long (m .kind))) (λ _. by-if Q (takes (m .kind) (m .held) (m .place) b) (λ _. kept tt refl) (λ _. none tt refl))
       (λ _. by-if Q (eqb (m .place) (long (m .kind))) (λ _. by-if Q (eqb b EOR) (λ _. kept tt refl) (λ _. none tt refl))
@@ -231,7 +231,7 @@ module _ (R : Rules) (L : RuleLaws R) where
 
   -- ---- picture code and kind
 
-  bad-picture : (p d q : ℕ) (c : Held) → q ≢ FD → isPicture q ≡ false → move R (mk R seenOpening 1 0 0 p d FD c) q ≡ answering R 13 (lost R (push seenOpening q))
+  pub bad-picture : (p d q : ℕ) (c : Held) → q ≢ FD → isPicture q ≡ false → move R (mk R seenOpening 1 0 0 p d FD c) q ≡ answering R (noPicture q) (lost R (push seenOpening q))
   unfolding move placed atPicture
   bad-picture p d q c n h = rw (only-FD seenOpening q n, h)
 
@@ -268,7 +268,7 @@ module _ (R : Rules) (L : RuleLaws R) where
       split (inl f) = free-quiet w f
       split (inr (vs, e, f)) = rw e (quiet1 (no-opening w 0 tt) (quiet1 (only-STX 0 (take 4 w) FD (λ e. omega arith)) (free-quiet _ f)))
 
-  tail-quiet : {k : ℕ} {c e : Held} {xs : List ℕ} → isKind k ≡ true → BlockContents R k c 3 xs e → (w : List ℕ) (z : ℕ) → Quiet w (xs ++ closing z)
+  pub tail-quiet : {k : ℕ} {c e : Held} {xs : List ℕ} → isKind k ≡ true → BlockContents R k c 3 xs e → (w : List ℕ) (z : ℕ) → Quiet w (xs ++ closing z)
   tail-quiet hk r w z = quiet-append (body-quiet hk r w) (closing-quiet _ z)
 
   altered-quiet : {v k : ℕ} {c e : Held} {xs ys : List ℕ} (q : ℕ) → v ≢ FD → isKind k ≡ true → isPicture q ≡ true → BlockContents R k c 3 xs e → AlteredTo v xs ys → Quiet (seenKind q k) ys
@@ -336,7 +336,7 @@ module _ (R : Rules) (L : RuleLaws R) where
       (λ e. no-part-idle w blank (quiet1 e (quiet1 (no-opening _ TPAD tt) quiet0)))
     where
       hit : NoPartAfter (lost R seenControl) (FD ∷ TPAD ∷ [])
-      hit = no-part-go (take-opening R L 0 0 blank) (other 0 tt) (no-part-go (bad-picture 0 0 TPAD blank (λ e. omega arith) (L .tpad-picture)) (other 13 tt) (no-part-idle _ blank quiet0))
+      hit = no-part-go (take-opening R L 0 0 blank) (other 0 tt) (no-part-go (bad-picture 0 0 TPAD blank (λ e. omega arith) (L .tpad-picture)) (L .no-picture TPAD) (no-part-idle _ blank quiet0))
 
   no-part-block : {v k : ℕ} {c e : Held} {xs ys : List ℕ} (q p d : ℕ) → v ≢ FD → isPicture q ≡ true → isKind k ≡ true → 3 + length xs ≡ long k → BlockContents R k c 3 xs e
       → AlteredTo v (xs ++ closing (checkByte (block R q k xs))) ys → NoPartAfter (mk R (seenKind q k) 3 k q p d (checkAt3 q k) c) ys
@@ -396,7 +396,7 @@ module _ (R : Rules) (L : RuleLaws R) where
     no-part-picture n =
         by-test (isPicture v)
         (λ e. no-part-go (take-picture R L p d v c e) (other 0 tt) (kinds role))
-        (λ e. no-part-go (bad-picture p d v c nv e) (other 13 tt)
+        (λ e. no-part-go (bad-picture p d v c nv e) (L .no-picture v)
         (no-part-idle (push seenOpening v) blank (quiet1 (only-FD (push seenOpening v) k (kind-not-FD R L k hk)) (quiet-tail (push (push seenOpening v) k)))))
       where
         kinds : Role p d c q k → NoPartAfter (mk R (push seenOpening v) 2 0 v p d (FD ⊕ v) c) (k ∷ (xs ++ closing z))

@@ -1,32 +1,34 @@
 -- Every byte is answered with one of 01's numbers, and the reply that tells it has the number's case. Assumes nothing.
-use mathlib.Core.Path.{_≡_, refl}
+use mathlib.Core.Path.{_≡_, refl, sym, subst}
 use mathlib.Core.Logic.{⊎-elim}
 use mathlib.Core.Bool.{Bool, true, false, not, _&&_, _||_}
 use mathlib.Core.List.{List}
 use Prim.Native.Nat.{ℕ, suc}
 use native.Mathlib.Omega.{arith}
 use lib.Dec.{eqb, leb, ltb}
-use borrow.Author.Tests.{eqb-false, leb-true}
+use borrow.Author.Tests.{eqb-true, eqb-false, leb-true}
 use Rattle.text.specs.Text.{EOR, TPAD}
 use Rattle.text.specs.Pictures.{isPictureCode}
 use Rattle.text.specs.Kinds.{isKind, isStartKind, isEndKind, kindOf, blockLength}
 use Rattle.general_laws.proofs.Tests.{by-if, and-split, or-split}
 use Rattle.receiver_spec.specs.Seen.{push, endsOpening, dueByte}
+use Rattle.receiver_spec.specs.Marks.{isMarked}
 use Rattle.receiver_spec.specs.State.{State}
 use Rattle.receiver_spec.specs.Contents.{takesByte}
 use Rattle.receiver_spec.specs.Receiver.{Step, opened, gapByte, pictureByte, kindByte, blockByte, eorByte, checkedByte, modeIsHighest, lastByte, placedByte, step}
 use Rattle.receiver_spec.specs.Calls.{Reply, partComplete, partDropped, number, answered}
-use Rattle.receiver_spec.specs.Demand3.{IsAnswer, saysNothing, saysBegun, saysTaken, saysComplete, saysDropped}
+use Rattle.receiver_spec.specs.Demand3.{IsAnswer, saysNothing, saysBegun, saysTaken, saysComplete, saysDropped, saysUnmarked}
 
--- 01's numbers: 0 to 3, and the rows 11 to 22
+-- 01's numbers: 0 to 3, and the rows 11 to 22 and 51
 abbrev isNumber : ℕ → Bool
-isNumber n = leb n 3 || leb 11 n && leb n 22
+isNumber n = leb n 3 || (leb 11 n && leb n 22 || eqb n 51)
 
 drop-number : (n : ℕ) → isNumber n ≡ true → eqb n 0 ≡ false → eqb n 1 ≡ false → eqb n 2 ≡ false → eqb n 3 ≡ false → IsAnswer (partDropped n)
 drop-number n h a b c d =
     ⊎-elim (λ l. absurd (omega (arith, leb-true n 3 l, eqb-false n 0 a, eqb-false n 1 b, eqb-false n 2 c, eqb-false n 3 d)))
-    (λ r. let (low, high) = and-split (leb 11 n) (leb n 22) r in saysDropped n (leb-true 11 n low) (leb-true n 22 high))
-    (or-split (leb n 3) (leb 11 n && leb n 22) h)
+    (λ r. ⊎-elim (λ r. let (low, high) = and-split (leb 11 n) (leb n 22) r in saysDropped n (leb-true 11 n low) (leb-true n 22 high))
+    (λ e. subst (λ m. IsAnswer (partDropped m)) (sym (eqb-true n 51 e)) saysUnmarked) (or-split (leb 11 n && leb n 22) (eqb n 51) r))
+    (or-split (leb n 3) (leb 11 n && leb n 22 || eqb n 51) h)
 
 -- the reply that tells such a number has its case
 answered-known : (part n : ℕ) → isNumber n ≡ true → IsAnswer (answered part n)
@@ -54,7 +56,7 @@ module _ (s : State) (g w : List ℕ) (b : ℕ) where
 
   picture-known : Known (pictureByte s g w b)
   unfolding pictureByte
-  picture-known = by-if Known (isPictureCode b) (λ _. refl) (λ _. refl)
+  picture-known = by-if Known (not (isPictureCode b)) (λ _. refl) (λ _. by-if Known (not (isMarked (s .marks) b)) (λ _. refl) (λ _. refl))
 
   kind-known : Known (kindByte s g w b)
   unfolding kindByte
@@ -112,3 +114,4 @@ three-complete saysBegun e = absurd (omega (arith, e))
 three-complete saysTaken e = absurd (omega (arith, e))
 three-complete (saysComplete p) e = (p, refl)
 three-complete (saysDropped row l m) e = absurd (omega (arith, e, l))
+three-complete saysUnmarked e = absurd (omega (arith, e))

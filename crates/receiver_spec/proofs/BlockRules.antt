@@ -24,30 +24,30 @@ use Rattle.general_laws.proofs.Tests.{and-split, and-join, neither, rule-at, ev
 use Rattle.text_laws.proofs.Blocks.{StartRules, start-rules, start-keeps, EndRules, end-rules, end-keeps}
 use Rattle.receiver_spec.specs.Contents.{timeTakes, startTakes, begunHeader, enterHeader, endTakes, enterModes, enterGrid, takesByte}
 use Rattle.receiver_spec.proofs.Machine.{BlockContents, contents-end, contents-byte}
-use Rattle.receiver_spec.proofs.Instance.{Held, held, radar}
+use Rattle.receiver_spec.proofs.Instance.{Held, held, beginHeld, enterHeld, radar}
 use Rattle.text_laws.proofs.KindTable.{start-not-end, end-not-start}
 
 -- ---- a run of block bytes: their tests, and what is held behind them
 
 tests : ℕ → Held → ℕ → List ℕ → List Bool
 tests k c i [] = []
-tests k c i (x ∷ xs) = takesByte k (c .header) i x ∷ tests k (radar .enter k c i x) (suc i) xs
+tests k c i (x ∷ xs) = takesByte k (c .header) i x ∷ tests k (enterHeld k c i x) (suc i) xs
 
 puts : ℕ → Held → ℕ → List ℕ → Held
 puts k c i [] = c
-puts k c i (x ∷ xs) = puts k (radar .enter k c i x) (suc i) xs
+puts k c i (x ∷ xs) = puts k (enterHeld k c i x) (suc i) xs
 
-contents-from : {k i : ℕ} {c d : Held} {xs : List ℕ} → BlockContents radar k c i xs d → (allOf (tests k c i xs) ≡ true) × (d ≡ puts k c i xs)
+contents-from : (marks : ℕ) {k i : ℕ} {c d : Held} {xs : List ℕ} → BlockContents (radar marks) k c i xs d → (allOf (tests k c i xs) ≡ true) × (d ≡ puts k c i xs)
 unfolding tests puts allOf
-contents-from contents-end = (refl, refl)
-contents-from (contents-byte h r) = let (a, b) = contents-from r in (and-join h a, b)
+contents-from marks contents-end = (refl, refl)
+contents-from marks (contents-byte h r) = let (a, b) = contents-from marks r in (and-join h a, b)
 
-contents-to : (k : ℕ) (c : Held) (i : ℕ) (xs : List ℕ) → allOf (tests k c i xs) ≡ true → BlockContents radar k c i xs (puts k c i xs)
+contents-to : (marks k : ℕ) (c : Held) (i : ℕ) (xs : List ℕ) → allOf (tests k c i xs) ≡ true → BlockContents (radar marks) k c i xs (puts k c i xs)
 unfolding tests puts allOf
-contents-to k c i [] h = contents-end
-contents-to k c i (x ∷ xs) h =
-    let (a, b) = and-split (takesByte k (c .header) i x) (allOf (tests k (radar .enter k c i x) (suc i) xs)) h in
-    contents-byte a (contents-to k (radar .enter k c i x) (suc i) xs b)
+contents-to marks k c i [] h = contents-end
+contents-to marks k c i (x ∷ xs) h =
+    let (a, b) = and-split (takesByte k (c .header) i x) (allOf (tests k (enterHeld k c i x) (suc i) xs)) h in
+    contents-byte a (contents-to marks k (enterHeld k c i x) (suc i) xs b)
 
 -- ---- the start block
 
@@ -64,7 +64,7 @@ module _ (k : ℕ) (s : isStartKind k ≡ true) where
   unfolding takesByte
   takes-start h i x = rw s
 
-  enter-start : (c : Held) (i x : ℕ) → radar .enter k c i x ≡ held (enterHeader (c .header) i x) (c .modes) (c .grid)
+  enter-start : (c : Held) (i x : ℕ) → enterHeld k c i x ≡ held (enterHeader (c .header) i x) (c .modes) (c .grid)
   enter-start c i x = rw (s, start-not-end k s)
 
   tests-start : (xs : List ℕ) (c : Held) (i : ℕ) → tests k c i xs ≡ startTests (c .header) i xs
@@ -196,15 +196,15 @@ module _ (q k : ℕ) (xs : List ℕ) (hq : isPictureCode q ≡ true) (s : isStar
   start-header h = rw (clock-joined (xs ! 3) (xs ! 4) h)
 
 -- A start block is taken, byte by byte, exactly when it keeps its rules, and the header is then what the block gives
-pub start-taken : (q k : ℕ) (a d : Held) (xs : List ℕ) → isPictureCode q ≡ true → isStartKind k ≡ true → length xs ≡ 29
-    → BlockContents radar k (radar .begin q a) 3 xs d ↔ ((isStartBlock (FD ∷ q ∷ k ∷ xs) ≡ true) × (d ≡ held (headerOf (FD ∷ q ∷ k ∷ xs)) noModes (a .grid)))
-start-taken q k a d xs hq s l = (fro, to)
+pub start-taken : (marks q k : ℕ) (a d : Held) (xs : List ℕ) → isPictureCode q ≡ true → isStartKind k ≡ true → length xs ≡ 29
+    → BlockContents (radar marks) k (beginHeld q a) 3 xs d ↔ ((isStartBlock (FD ∷ q ∷ k ∷ xs) ≡ true) × (d ≡ held (headerOf (FD ∷ q ∷ k ∷ xs)) noModes (a .grid)))
+start-taken marks q k a d xs hq s l = (fro, to)
   where
     e : xs ≡ written xs
     e = by-place 29 xs l
 
     c : Held
-    c = radar .begin q a
+    c = beginHeld q a
 
     clock : isStartBlock (FD ∷ q ∷ k ∷ xs) ≡ true → isClockByte (xs ! 3) ≡ true
     clock h = start-rules (FD ∷ q ∷ k ∷ xs) h .clockHigh
@@ -214,18 +214,18 @@ start-taken q k a d xs hq s l = (fro, to)
         puts-start k s xs c 3
         ∙ ap (λ h. held h noModes (a .grid)) (ap (startPuts (begunHeader q) 3) e ∙ start-header q k xs hq s (clock h) ∙ ap (λ t. headerOf (FD ∷ q ∷ k ∷ t)) (sym e))
 
-    fro : BlockContents radar k c 3 xs d → (isStartBlock (FD ∷ q ∷ k ∷ xs) ≡ true) × (d ≡ held (headerOf (FD ∷ q ∷ k ∷ xs)) noModes (a .grid))
+    fro : BlockContents (radar marks) k c 3 xs d → (isStartBlock (FD ∷ q ∷ k ∷ xs) ≡ true) × (d ≡ held (headerOf (FD ∷ q ∷ k ∷ xs)) noModes (a .grid))
     fro r =
-        let (t, f) = contents-from r in
+        let (t, f) = contents-from marks r in
         let tests : allOf (startTests (begunHeader q) 3 (written xs)) ≡ true = subst (λ y. allOf (startTests (begunHeader q) 3 y) ≡ true) e (ap allOf (sym (tests-start k s xs c 3)) ∙ t) in
         let ok : isStartBlock (FD ∷ q ∷ k ∷ xs) ≡ true = subst (λ y. isStartBlock (FD ∷ q ∷ k ∷ y) ≡ true) (sym e) (start-keeps (FD ∷ q ∷ k ∷ written xs) (start-from q k xs hq s tests)) in
         (ok, f ∙ holds ok)
 
-    to : (isStartBlock (FD ∷ q ∷ k ∷ xs) ≡ true) × (d ≡ held (headerOf (FD ∷ q ∷ k ∷ xs)) noModes (a .grid)) → BlockContents radar k c 3 xs d
+    to : (isStartBlock (FD ∷ q ∷ k ∷ xs) ≡ true) × (d ≡ held (headerOf (FD ∷ q ∷ k ∷ xs)) noModes (a .grid)) → BlockContents (radar marks) k c 3 xs d
     to (ok, f) =
         let r = start-rules (FD ∷ q ∷ k ∷ written xs) (subst (λ y. isStartBlock (FD ∷ q ∷ k ∷ y) ≡ true) e ok) in
         let t = ap allOf (tests-start k s xs c 3) ∙ subst (λ y. allOf (startTests (begunHeader q) 3 y) ≡ true) (sym e) (start-to q k xs hq s r) in
-        subst (BlockContents radar k c 3 xs) (holds ok ∙ sym f) (contents-to k c 3 xs t)
+        subst (BlockContents (radar marks) k c 3 xs) (holds ok ∙ sym f) (contents-to marks k c 3 xs t)
 
 -- ---- the data block
 
@@ -244,39 +244,39 @@ module _ (k : ℕ) (h : isDataKind k ≡ true) where
   unfolding takesByte
   takes-data g i x = rw (data-only k h .0, data-only k h .1)
 
-  enter-data : (c : Held) (i x : ℕ) → radar .enter k c i x ≡ held (c .header) (c .modes) (set (c .grid) (base + (i - 3)) x)
+  enter-data : (c : Held) (i x : ℕ) → enterHeld k c i x ≡ held (c .header) (c .modes) (set (c .grid) (base + (i - 3)) x)
   unfolding enterGrid
   enter-data c i x = rw (data-only k h .0, data-only k h .1)
 
-  data-from : {i : ℕ} {c d : Held} {xs : List ℕ} → BlockContents radar k c i xs d → 3 ≤ i
+  data-from : (marks : ℕ) {i : ℕ} {c d : Held} {xs : List ℕ} → BlockContents (radar marks) k c i xs d → 3 ≤ i
       → (every (isPayloadByte (partOf k)) xs ≡ true) × (d ≡ held (c .header) (c .modes) (sets (c .grid) (base + (i - 3)) xs))
   unfolding every
-  data-from contents-end l = (refl, refl)
-  data-from {i} {c} (contents-byte {x} {xs} t r) l =
-      let (p, q) = data-from r (omega arith) in
+  data-from marks contents-end l = (refl, refl)
+  data-from marks {i} {c} (contents-byte {x} {xs} t r) l =
+      let (p, q) = data-from marks r (omega arith) in
       let far : base + (suc i - 3) ≡ suc (base + (i - 3)) = omega arith in (
         and-join (sym (takes-data (c .header) i x) ∙ t) p,
         q ∙ ap₂ (λ (e : Held) j. held (e .header) (e .modes) (sets (e .grid) j xs)) (enter-data c i x) far,
       )
 
-  data-to : (i : ℕ) (c : Held) (xs : List ℕ) → every (isPayloadByte (partOf k)) xs ≡ true → 3 ≤ i
-      → BlockContents radar k c i xs (held (c .header) (c .modes) (sets (c .grid) (base + (i - 3)) xs))
+  data-to : (marks i : ℕ) (c : Held) (xs : List ℕ) → every (isPayloadByte (partOf k)) xs ≡ true → 3 ≤ i
+      → BlockContents (radar marks) k c i xs (held (c .header) (c .modes) (sets (c .grid) (base + (i - 3)) xs))
   unfolding every
-  data-to i c [] t l = contents-end
-  data-to i c (x ∷ xs) t l =
+  data-to marks i c [] t l = contents-end
+  data-to marks i c (x ∷ xs) t l =
       let (p, q) = and-split (isPayloadByte (partOf k) x) (every (isPayloadByte (partOf k)) xs) t in
       let far : base + (suc i - 3) ≡ suc (base + (i - 3)) = omega arith in
       contents-byte (takes-data (c .header) i x ∙ p)
-      (subst (λ (e : Held). BlockContents radar k e (suc i) xs (held (c .header) (c .modes) (sets (set (c .grid) (base + (i - 3)) x) (suc (base + (i - 3))) xs))) (sym (enter-data c i x))
-      (subst (λ j. BlockContents radar k (held (c .header) (c .modes) (set (c .grid) (base + (i - 3)) x)) (suc i) xs (held (c .header) (c .modes) (sets (set (c .grid) (base + (i - 3)) x) j xs))) far
-      (data-to (suc i) (held (c .header) (c .modes) (set (c .grid) (base + (i - 3)) x)) xs q (omega arith))))
+      (subst (λ (e : Held). BlockContents (radar marks) k e (suc i) xs (held (c .header) (c .modes) (sets (set (c .grid) (base + (i - 3)) x) (suc (base + (i - 3))) xs))) (sym (enter-data c i x))
+      (subst (λ j. BlockContents (radar marks) k (held (c .header) (c .modes) (set (c .grid) (base + (i - 3)) x)) (suc i) xs (held (c .header) (c .modes) (sets (set (c .grid) (base + (i - 3)) x) j xs))) far
+      (data-to marks (suc i) (held (c .header) (c .modes) (set (c .grid) (base + (i - 3)) x)) xs q (omega arith))))
 
 -- A data block is taken exactly when its payload keeps its rule, and the payload has then entered the grid
-pub data-taken : (k : ℕ) (c d : Held) (xs : List ℕ) → isDataKind k ≡ true
-    → BlockContents radar k c 3 xs d ↔ ((every (isPayloadByte (partOf k)) xs ≡ true) × (d ≡ held (c .header) (c .modes) (sets (c .grid) (2000 * (textNumber k - 1)) xs)))
-data-taken k c d xs h = (
-  λ r. let (p, q) = data-from k h r (lit≤ tt) in (p, q ∙ at),
-  λ (p, q). subst (BlockContents radar k c 3 xs) (at ∙ sym q) (data-to k h 3 c xs p (lit≤ tt)),
+pub data-taken : (marks k : ℕ) (c d : Held) (xs : List ℕ) → isDataKind k ≡ true
+    → BlockContents (radar marks) k c 3 xs d ↔ ((every (isPayloadByte (partOf k)) xs ≡ true) × (d ≡ held (c .header) (c .modes) (sets (c .grid) (2000 * (textNumber k - 1)) xs)))
+data-taken marks k c d xs h = (
+  λ r. let (p, q) = data-from k h marks r (lit≤ tt) in (p, q ∙ at),
+  λ (p, q). subst (BlockContents (radar marks) k c 3 xs) (at ∙ sym q) (data-to k h marks 3 c xs p (lit≤ tt)),
 )
   where
     at : held (c .header) (c .modes) (sets (c .grid) (2000 * (textNumber k - 1) + (3 - 3)) xs) ≡ held (c .header) (c .modes) (sets (c .grid) (2000 * (textNumber k - 1)) xs)
@@ -297,7 +297,7 @@ module _ (k : ℕ) (s : isEndKind k ≡ true) where
   unfolding takesByte
   takes-end h i x = rw (end-not-start k s, s)
 
-  enter-end : (c : Held) (i x : ℕ) → radar .enter k c i x ≡ held (c .header) (enterModes (c .modes) i x) (c .grid)
+  enter-end : (c : Held) (i x : ℕ) → enterHeld k c i x ≡ held (c .header) (enterModes (c .modes) i x) (c .grid)
   enter-end c i x = rw (end-not-start k s, s)
 
   tests-end : (xs : List ℕ) (c : Held) (i : ℕ) → tests k c i xs ≡ endTests (c .header .radars) i xs
@@ -345,9 +345,9 @@ module _ (radars : List ℕ) (q k : ℕ) (xs : List ℕ) (hq : isPictureCode q �
 
 -- An end block is taken exactly when it keeps its rules for the radars of the header, and the modes, whatever they were,
 -- are then what it gives
-pub end-taken : (q k : ℕ) (h : Header) (m g : List ℕ) (d : Held) (xs : List ℕ) → isPictureCode q ≡ true → isEndKind k ≡ true → length m ≡ 8 → length xs ≡ 29
-    → BlockContents radar k (held h m g) 3 xs d ↔ ((isEndBlock (h .radars) (FD ∷ q ∷ k ∷ xs) ≡ true) × (d ≡ held h (modesOf (FD ∷ q ∷ k ∷ xs)) g))
-end-taken q k h m g d xs hq s eight l = (fro, to)
+pub end-taken : (marks q k : ℕ) (h : Header) (m g : List ℕ) (d : Held) (xs : List ℕ) → isPictureCode q ≡ true → isEndKind k ≡ true → length m ≡ 8 → length xs ≡ 29
+    → BlockContents (radar marks) k (held h m g) 3 xs d ↔ ((isEndBlock (h .radars) (FD ∷ q ∷ k ∷ xs) ≡ true) × (d ≡ held h (modesOf (FD ∷ q ∷ k ∷ xs)) g))
+end-taken marks q k h m g d xs hq s eight l = (fro, to)
   where
     e : xs ≡ written xs
     e = by-place 29 xs l
@@ -359,14 +359,14 @@ end-taken q k h m g d xs hq s eight l = (fro, to)
     holds =
         puts-end k s xs c 3 ∙ ap (λ m. held h m g) (ap (endPuts m 3) e ∙ end-modes (h .radars) q k xs hq s m eight ∙ ap (λ t. modesOf (FD ∷ q ∷ k ∷ t)) (sym e))
 
-    fro : BlockContents radar k c 3 xs d → (isEndBlock (h .radars) (FD ∷ q ∷ k ∷ xs) ≡ true) × (d ≡ held h (modesOf (FD ∷ q ∷ k ∷ xs)) g)
+    fro : BlockContents (radar marks) k c 3 xs d → (isEndBlock (h .radars) (FD ∷ q ∷ k ∷ xs) ≡ true) × (d ≡ held h (modesOf (FD ∷ q ∷ k ∷ xs)) g)
     fro r =
-        let (t, f) = contents-from r in
+        let (t, f) = contents-from marks r in
         let tests : allOf (endTests (h .radars) 3 (written xs)) ≡ true = subst (λ y. allOf (endTests (h .radars) 3 y) ≡ true) e (ap allOf (sym (tests-end k s xs c 3)) ∙ t) in
         (subst (λ y. isEndBlock (h .radars) (FD ∷ q ∷ k ∷ y) ≡ true) (sym e) (end-keeps (h .radars) (FD ∷ q ∷ k ∷ written xs) (end-from (h .radars) q k xs hq s tests)), f ∙ holds)
 
-    to : (isEndBlock (h .radars) (FD ∷ q ∷ k ∷ xs) ≡ true) × (d ≡ held h (modesOf (FD ∷ q ∷ k ∷ xs)) g) → BlockContents radar k c 3 xs d
+    to : (isEndBlock (h .radars) (FD ∷ q ∷ k ∷ xs) ≡ true) × (d ≡ held h (modesOf (FD ∷ q ∷ k ∷ xs)) g) → BlockContents (radar marks) k c 3 xs d
     to (ok, f) =
         let r = end-rules (h .radars) (FD ∷ q ∷ k ∷ written xs) (subst (λ y. isEndBlock (h .radars) (FD ∷ q ∷ k ∷ y) ≡ true) e ok) in
         let t = ap allOf (tests-end k s xs c 3) ∙ subst (λ y. allOf (endTests (h .radars) 3 y) ≡ true) (sym e) (end-to (h .radars) q k xs hq s r) in
-        subst (BlockContents radar k c 3 xs) (holds ∙ sym f) (contents-to k c 3 xs t)
+        subst (BlockContents (radar marks) k c 3 xs) (holds ∙ sym f) (contents-to marks k c 3 xs t)

@@ -220,26 +220,26 @@ leads-after (c ∷ calls) a h =
 
 -- ---- from the fresh state
 
-pub fresh-sound : PossibleOnGrid fresh emptyGrid
-fresh-sound = record { possible = fresh-possible; long = grid-long }
+pub fresh-sound : (n : ℕ) → PossibleOnGrid (fresh n) emptyGrid
+fresh-sound n = record { possible = fresh-possible n; long = grid-long }
 
-pub record Stepped (calls : List Call) : Type 0 where
-  pub said : received calls .said ≡ answersOf fresh emptyGrid (received calls .taken)
-  pub state : received calls .state ≡ stateAfter fresh emptyGrid (received calls .taken)
-  pub grid : received calls .grid ≡ gridAfter fresh emptyGrid (received calls .taken)
+pub record Stepped (n : ℕ) (calls : List Call) : Type 0 where
+  pub said : received n calls .said ≡ answersOf (fresh n) emptyGrid (received n calls .taken)
+  pub state : received n calls .state ≡ stateAfter (fresh n) emptyGrid (received n calls .taken)
+  pub grid : received n calls .grid ≡ gridAfter (fresh n) emptyGrid (received n calls .taken)
 
-pub calls-stepped : (calls : List Call) → Stepped calls
+pub calls-stepped : (n : ℕ) (calls : List Call) → Stepped n calls
 unfolding start
-calls-stepped calls =
-    let x = leads-after calls start fresh-sound in
+calls-stepped n calls =
+    let x = leads-after calls (start n) (fresh-sound n) in
     record {
-      said = x .said ∙ ap (answersOf fresh emptyGrid) (sym (x .taken));
-      state = x .state ∙ ap (stateAfter fresh emptyGrid) (sym (x .taken));
-      grid = x .grid ∙ ap (gridAfter fresh emptyGrid) (sym (x .taken));
+      said = x .said ∙ ap (answersOf (fresh n) emptyGrid) (sym (x .taken));
+      state = x .state ∙ ap (stateAfter (fresh n) emptyGrid) (sym (x .taken));
+      grid = x .grid ∙ ap (gridAfter (fresh n) emptyGrid) (sym (x .taken));
     }
 
-pub calls-sound : (calls : List Call) → PossibleOnGrid (received calls .state) (received calls .grid)
-calls-sound calls = let x = calls-stepped calls in rw (x .state, x .grid) (steps-sound (received calls .taken) fresh emptyGrid fresh-sound)
+pub calls-sound : (n : ℕ) (calls : List Call) → PossibleOnGrid (received n calls .state) (received n calls .grid)
+calls-sound n calls = let x = calls-stepped n calls in rw (x .state, x .grid) (steps-sound (received n calls .taken) (fresh n) emptyGrid (fresh-sound n))
 
 -- given one by one, all bytes are taken
 next-byte : (a : After) (b : ℕ) → PossibleOnGrid (a .state) (a .grid) → next a (onGrid (byte b)) .taken ≡ a .taken ++ (b ∷ [])
@@ -253,6 +253,6 @@ bytes-taken (b ∷ bytes) a h =
     bytes-taken bytes (next a (onGrid (byte b))) (leads-sound (leads-next a (onGrid (byte b)) h) h)
     ∙ ap (λ t. t ++ bytes) (next-byte a b h) ∙ append-assoc (a .taken) (b ∷ []) bytes
 
-pub singly-taken : (bytes : List ℕ) → singly bytes .taken ≡ bytes
+pub singly-taken : (n : ℕ) (bytes : List ℕ) → singly n bytes .taken ≡ bytes
 unfolding start
-singly-taken bytes = bytes-taken bytes start fresh-sound
+singly-taken n bytes = bytes-taken bytes (start n) (fresh-sound n)

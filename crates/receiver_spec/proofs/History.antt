@@ -68,7 +68,7 @@ snoc-inj (x ∷ xs) (y ∷ ys) a b e =
     (ap₂ (λ u v. u ∷ v) (head-eq-of-cons-eq e) p, q)
 
 module _ (R : Rules) (L : RuleLaws R) where
-  open Rules R using (Held, blank, isPicture, isKind, isStart, isEnd, long, dueKind, partOf, pictureOf, begin, takes, enter, settle, firstDue, nextDue, closes)
+  open Rules R using (Held, blank, isPicture, noPicture, isKind, isStart, isEnd, long, dueKind, partOf, pictureOf, begin, takes, enter, settle, firstDue, nextDue, closes)
 
   contents-snoc : {k : ℕ} {c d : Held} {i : ℕ} {xs : List ℕ} (b : ℕ) → BlockContents R k c i xs d → takes k d (i + length xs) b ≡ true
       → BlockContents R k c i (xs ++ (b ∷ [])) (enter k d (i + length xs) b)
@@ -156,7 +156,7 @@ module _ (R : Rules) (L : RuleLaws R) where
       by-if (Good (h ++ (b ∷ []))) (isPicture b)
       (λ e. quiet 0 _ (λ e. omega arith)
       (history z (ys ++ (controlA ++ (FD ∷ b ∷ []))) (snoc-eq h z (ys ++ opening) b k ∙ simp append-assoc) (atTwo refl e (ap (λ n. n ⊕ b) x) f)))
-      (λ _. dropped 13 _ (λ e. omega arith))
+      (λ _. dropped (noPicture b) _ (L .no-picture b))
 
   -- the check byte over the first three bytes
   check-3 : (q k : ℕ) → (FD ⊕ q) ⊕ k ≡ xorAll (FD ∷ q ∷ k ∷ [])

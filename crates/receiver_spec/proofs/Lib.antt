@@ -1,5 +1,7 @@
 -- The laws of the receiver's definition: Laws is what other crates may rest on; the others in reading order, and last the theorem.
 pub mod Laws
+-- the marks
+pub mod MarkLaws
 -- a machine over any rules, and the theory of framing
 pub mod Machine
 pub mod Opening
@@ -19,10 +21,12 @@ pub mod CallLists
 -- complete comes at a part's last byte and not before; how a part is answered
 pub mod NotBefore
 pub mod PartAnswers
+pub mod Unmarked
 -- demand 3
 pub mod Theorem
 -- a text under way
 pub mod UnderWay
--- rows 1, 2, 11 and 15 exactly when; sample traffic
+-- rows 1, 2, 11, 13, 15 and 51 exactly when; sample traffic
 pub mod Rows
+pub mod PictureRows
 pub mod Samples

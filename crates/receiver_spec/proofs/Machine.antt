@@ -17,6 +17,8 @@ pub record Rules : Type 1 where
   pub Held : Type 0
   pub blank : Held
   pub isPicture : ℕ → Bool
+  -- the row that a byte which is none breaks
+  pub noPicture : ℕ → ℕ
   pub isKind : ℕ → Bool
   pub isStart : ℕ → Bool
   pub isEnd : ℕ → Bool
@@ -37,7 +39,7 @@ pub record Rules : Type 1 where
   pub closes : Held → Bool
 
 module _ (R : Rules) where
-  open Rules R using (Held, blank, isPicture, isKind, isStart, isEnd, long, dueKind, partOf, pictureOf, begin, takes, enter, settle, firstDue, nextDue, closes)
+  open Rules R using (Held, blank, isPicture, noPicture, isKind, isStart, isEnd, long, dueKind, partOf, pictureOf, begin, takes, enter, settle, firstDue, nextDue, closes)
 
   pub record Machine : Type 0 where
     pub seen : List ℕ
@@ -76,7 +78,7 @@ module _ (R : Rules) where
 
   unfoldable pub atPicture : Machine → List ℕ → ℕ → Out
   atPicture m w b =
-      cond (isPicture b) (answering 0 (mk w 2 0 b (m .part) (m .due) (m .check ⊕ b) (m .held))) (answering 13 (lost w))
+      cond (isPicture b) (answering 0 (mk w 2 0 b (m .part) (m .due) (m .check ⊕ b) (m .held))) (answering (noPicture b) (lost w))
 
   abbrev pub begins : Machine → List ℕ → ℕ → Held → Machine
   begins m w b c = mk w 3 b (m .picture) 0 0 (m .check ⊕ b) (begin (m .picture) c)

@@ -10,15 +10,17 @@ use Rattle.general_laws.specs.Bytes.{_!_, same}
 use Rattle.text.specs.Text.{TPAD, controlA, checkByte}
 use Rattle.text.specs.Part.{UndamagedPart}
 use Rattle.receiver_spec.specs.Seen.{endsOpening}
+use Rattle.receiver_spec.specs.Marks.{marksFrom}
 use Rattle.receiver_spec.specs.State.{State, fresh, emptyGrid}
 use Rattle.receiver_spec.specs.Receiver.{BEGUN, TAKEN, step}
 use Rattle.receiver_spec.specs.Calls.{byte, onGrid, singly, answersOf}
+use Rattle.receiver_spec.specs.Demand3.{Marked}
 use Rattle.receiver_spec.proofs.Machine.{Rules, Machine, Out, mk, new, inGap, atLast, placed, move, AllQuiet, quiet-none, quiet-byte, BlockContents, block, most, Open, begun, more, Whole, whole}
 use Rattle.receiver_spec.proofs.Opening.{seenControl}
 use Rattle.receiver_spec.proofs.Steps.{RuleLaws, quiet-append, NotComplete, stop, go, not-complete-append}
 use Rattle.receiver_spec.proofs.WayBack.{seenCheck, take-last}
 use Rattle.receiver_spec.proofs.Completing.{open-some, gap-1, gap-2, gap-3, gap-4, gap-5, start-quiet, due-quiet}
-use Rattle.receiver_spec.proofs.Instance.{radar, machine, step-is-move, radar-laws}
+use Rattle.receiver_spec.proofs.Instance.{radar, machine, step-is-move, step-marks, radar-laws}
 use Rattle.receiver_spec.proofs.WholeParts.{undamaged-whole}
 use Rattle.receiver_spec.proofs.CallLists.{calls-stepped, singly-taken}
 
@@ -83,22 +85,27 @@ module _ (R : Rules) (L : RuleLaws R) where
 
 -- ---- 01's receiver
 
--- the answers of its steps are those of the machine
-answers-not-complete : {m n : Machine radar} {xs : List ℕ} → NotComplete radar m xs n → (rest : List ℕ) (s : State) (g : List ℕ) → machine s g ≡ m
-    → (i : ℕ) → i < length xs → answersOf s g (xs ++ rest) ! i ≢ 3
-unfolding answersOf
-answers-not-complete stop rest s g h i l = absurd (omega arith)
-answers-not-complete (go {b} e a r) rest s g h zero l =
-    λ t. a (sym (ap (λ (o : Out radar). o .answer) (step-is-move s g b ∙ ap (λ (x : Machine radar). move radar x b) h ∙ e)) ∙ t)
-answers-not-complete (go {b} e a r) rest s g h (suc i) l =
-    answers-not-complete r rest (step s g b .state) (step s g b .grid)
-    (ap (λ (o : Out radar). o .machine) (step-is-move s g b ∙ ap (λ (x : Machine radar). move radar x b) h ∙ e)) i (omega arith)
+module _ (marks : ℕ) where
+  abbrev R : Rules
+  R = radar marks
+
+  -- the answers of its steps are those of the machine
+  answers-not-complete : {m n : Machine R} {xs : List ℕ} → NotComplete R m xs n → (rest : List ℕ) (s : State) (g : List ℕ) → s .marks ≡ marks → machine marks s g ≡ m
+      → (i : ℕ) → i < length xs → answersOf s g (xs ++ rest) ! i ≢ 3
+  unfolding answersOf
+  answers-not-complete stop rest s g k h i l = absurd (omega arith)
+  answers-not-complete (go {b} e a r) rest s g k h zero l =
+      λ t. a (sym (ap (λ (o : Out R). o .answer) (step-is-move marks s g b k ∙ ap (λ (x : Machine R). move R x b) h ∙ e)) ∙ t)
+  answers-not-complete (go {b} e a r) rest s g k h (suc i) l =
+      answers-not-complete r rest (step s g b .state) (step s g b .grid) (step-marks s g b ∙ k)
+      (ap (λ (o : Out R). o .machine) (step-is-move marks s g b k ∙ ap (λ (x : Machine R). move R x b) h ∙ e)) i (omega arith)
 
 -- a fresh receiver that is given an undamaged part one by one with the byte call does not answer complete before its last byte
-pub not-before : (bytes : List ℕ) → UndamagedPart bytes → (i : ℕ) → suc i < length bytes → singly bytes .said ! i ≢ 3
-not-before bytes u i l =
-    let (front, n, e, h) = whole-not-complete radar radar-laws (undamaged-whole u) in
+pub not-before : (n : ℕ) (bytes : List ℕ) (u : UndamagedPart bytes) → Marked n (u .part .start) → (i : ℕ) → suc i < length bytes → singly n bytes .said ! i ≢ 3
+not-before n bytes u hm i l =
+    let marks = marksFrom n in
+    let (front, last, e, h) = whole-not-complete (radar marks) (radar-laws marks) (undamaged-whole marks u hm) in
     let long : length bytes ≡ length front + 1 = ap length e ∙ length-append front (TPAD ∷ []) in
-    let said : singly bytes .said ≡ answersOf fresh emptyGrid (front ++ (TPAD ∷ [])) =
-    calls-stepped (map (λ b. onGrid (byte b)) bytes) .said ∙ ap (answersOf fresh emptyGrid) (singly-taken bytes ∙ e) in
-    λ t. answers-not-complete h (TPAD ∷ []) fresh emptyGrid refl i (omega arith) (ap (λ x. x ! i) (sym said) ∙ t)
+    let said : singly n bytes .said ≡ answersOf (fresh n) emptyGrid (front ++ (TPAD ∷ [])) =
+    calls-stepped n (map (λ b. onGrid (byte b)) bytes) .said ∙ ap (answersOf (fresh n) emptyGrid) (singly-taken n bytes ∙ e) in
+    λ t. answers-not-complete marks h (TPAD ∷ []) (fresh n) emptyGrid refl refl i (omega arith) (ap (λ x. x ! i) (sym said) ∙ t)

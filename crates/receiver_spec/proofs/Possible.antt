@@ -18,9 +18,11 @@ use Rattle.general_laws.proofs.Tests.{by-test, never, and-split, and-join, rule
 use Rattle.general_laws.proofs.Computed.{tabled}
 use Rattle.text_laws.proofs.KindTable.{kind-part, text-back, no-kind-0, block-least}
 use Rattle.receiver_spec.specs.Seen.{push, endsOpening, dueByte}
+use Rattle.receiver_spec.specs.Marks.{isMarked, areMarks}
 use Rattle.receiver_spec.specs.State.{State, fresh, emptyGrid, isDue, fitsPart, kindUnread, kindRead, isPossible}
 use Rattle.receiver_spec.specs.Contents.{takesByte, enterGrid}
 use Rattle.receiver_spec.specs.Receiver.{Step, drops, opened, gapByte, pictureByte, kindByte, blockByte, eorByte, checkedByte, firstDue, nextDue, modeIsHighest, lastByte, placedByte, step}
+use Rattle.receiver_spec.proofs.MarkLaws.{from-marks}
 use Rattle.receiver_spec.proofs.WholeParts.{first-due}
 
 -- ---- possible states by cases
@@ -35,10 +37,11 @@ pub record Possible (s : State) : Type 0 where
   pub few : length (s .seen) ≤ 5
   pub due : isDue (s .part) (s .due) ≡ true
   pub shape : Shape s
+  pub marks : areMarks (s .marks) ≡ true
 
 pub possible-keeps : (s : State) → Possible s → isPossible s ≡ true
 unfolding isPossible allOf kindUnread kindRead
-possible-keeps s p = and-join (le-leb _ _ (p .few)) (and-join (p .due) (and-join (go (p .shape)) refl))
+possible-keeps s p = and-join (le-leb _ _ (p .few)) (and-join (p .due) (and-join (go (p .shape)) (and-join (p .marks) refl)))
   where
     go : Shape s → cond (eqb (s .kind) 0) (kindUnread s) (kindRead s) ≡ true
     go (between i k q c) = rw (eq-eqb (s .kind) 0 k, eq-eqb (s .place) 0 i, eq-eqb (s .picture) 0 q, eq-eqb (s .check) 0 c)
@@ -51,7 +54,7 @@ possible-keeps s p = and-join (le-leb _ _ (p .few)) (and-join (p .due) (and-join
 
 pub possible-facts : (s : State) → isPossible s ≡ true → Possible s
 unfolding isPossible kindUnread kindRead
-possible-facts s h = record { few = leb-true _ _ (rule-at _ h 0); due = rule-at _ h 1; shape = go (rule-at _ h 2) }
+possible-facts s h = record { few = leb-true _ _ (rule-at _ h 0); due = rule-at _ h 1; shape = go (rule-at _ h 2); marks = rule-at _ h 3 }
   where
     read : kindRead s ≡ true → Shape s
     read t = inText (leb-true _ _ (rule-at _ t 0)) (leb-true _ _ (rule-at _ t 1)) (rule-at _ t 2) (rule-at _ t 3) (rule-at _ t 4)
@@ -161,28 +164,31 @@ pub grid-long : length emptyGrid ≡ gridLength
 unfolding zeros
 grid-long = length-replicate {A = ℕ} gridLength 0
 
-module _ (s : State) (g w : List ℕ) (b : ℕ) (few : length w ≤ 5) (long : length g ≡ gridLength) (due : isDue (s .part) (s .due) ≡ true) where
+module _ (s : State) (g w : List ℕ) (b : ℕ) (few : length w ≤ 5) (long : length g ≡ gridLength) (due : isDue (s .part) (s .due) ≡ true) (marks : areMarks (s .marks) ≡ true) where
   abbrev Kept : Step → Type 0
   Kept o = Possible (o .state) × (length (o .grid) ≡ gridLength)
 
-  lost : (n : ℕ) → Kept (drops n w)
-  lost n = (record { few = few; due = due-none; shape = between refl refl refl refl }, grid-long)
+  lost : (n : ℕ) → Kept (drops n s w)
+  lost n = (record { few = few; due = due-none; shape = between refl refl refl refl; marks = marks }, grid-long)
 
   opened-kept : Kept (opened s g w)
   unfolding opened
   opened-kept =
-      by-if Kept (eqb (s .place) 0) (λ _. (record { few = few; due = due; shape = atFD refl refl refl }, long))
-      (λ _. (record { few = few; due = due-none; shape = atFD refl refl refl }, grid-long))
+      by-if Kept (eqb (s .place) 0) (λ _. (record { few = few; due = due; shape = atFD refl refl refl; marks = marks }, long))
+      (λ _. (record { few = few; due = due-none; shape = atFD refl refl refl; marks = marks }, grid-long))
 
   gap-kept : Kept (gapByte s g w b)
   unfolding gapByte
   gap-kept =
-      by-if Kept (eqb (s .part) 0) (λ _. (record { few = few; due = due-none; shape = between refl refl refl refl }, long))
-      (λ _. by-if Kept (eqb b (dueByte (s .seen))) (λ _. (record { few = few; due = due; shape = between refl refl refl refl }, long)) (λ _. lost 12))
+      by-if Kept (eqb (s .part) 0) (λ _. (record { few = few; due = due-none; shape = between refl refl refl refl; marks = marks }, long))
+      (λ _. by-if Kept (eqb b (dueByte (s .seen))) (λ _. (record { few = few; due = due; shape = between refl refl refl refl; marks = marks }, long)) (λ _. lost 12))
 
   picture-kept : Kept (pictureByte s g w b)
   unfolding pictureByte
-  picture-kept = by-if Kept (isPictureCode b) (λ q. (record { few = few; due = due; shape = atPicture refl refl q }, long)) (λ _. lost 13)
+  picture-kept =
+      by-if Kept (not (isPictureCode b)) (λ _. lost 13)
+      (λ q. by-if Kept (not (isMarked (s .marks) b)) (λ _. lost 51)
+      (λ _. (record { few = few; due = due; shape = atPicture refl refl (not-false (isPictureCode b) q); marks = marks }, long)))
 
   -- a text goes on: place, kind and part fit
   kind-kept : isPictureCode (s .picture) ≡ true → Kept (kindByte s g w b)
@@ -192,12 +198,12 @@ module _ (s : State) (g w : List ℕ) (b : ℕ) (few : length w ≤ 5) (long : l
       (λ k. let known = not-false (isKind b) k in
       let room : 3 ≤ blockLength b + 2 = omega (arith, block-least b known) in
       by-if Kept (isStartKind b)
-      (λ t. by-if Kept (eqb (s .part) 0) (λ _. (record { few = few; due = due-none; shape = inText (lit≤ tt) room q known t }, long))
-      (λ _. (record { few = few; due = due-none; shape = inText (lit≤ tt) room q known t }, grid-long)))
+      (λ t. by-if Kept (eqb (s .part) 0) (λ _. (record { few = few; due = due-none; shape = inText (lit≤ tt) room q known t; marks = marks }, long))
+      (λ _. (record { few = few; due = due-none; shape = inText (lit≤ tt) room q known t; marks = marks }, grid-long)))
       (λ _. by-if Kept (eqb (s .part) 0) (λ _. lost 16)
       (λ p. by-if Kept (not (eqb b (kindOf (s .part) (s .due)))) (λ _. lost 16)
       (λ d. by-if Kept (eqb (s .picture) (s .header .picture))
-      (λ _. (record { few = few; due = due; shape = inText (lit≤ tt) room q known (rw p (not-false _ d)) }, long)) (λ _. lost 17)))))
+      (λ _. (record { few = few; due = due; shape = inText (lit≤ tt) room q known (rw p (not-false _ d)); marks = marks }, long)) (λ _. lost 17)))))
 
   module _ (three : 3 ≤ s .place) (most : s .place ≤ blockLength (s .kind) + 2) (q : isPictureCode (s .picture) ≡ true) (k : isKind (s .kind) ≡ true) (fits : fitsPart s ≡ true) where
     block-kept : s .place < blockLength (s .kind) → Kept (blockByte s g w b)
@@ -205,28 +211,28 @@ module _ (s : State) (g w : List ℕ) (b : ℕ) (few : length w ≤ 5) (long : l
     block-kept l =
         by-if Kept (takesByte (s .kind) (s .header) (s .place) b)
         (λ _. (
-          record { few = few; due = due; shape = inText (omega arith) (omega arith) q k fits },
+          record { few = few; due = due; shape = inText (omega arith) (omega arith) q k fits; marks = marks },
           by-if (λ (t : List ℕ). length t ≡ gridLength) (isStartKind (s .kind) || isEndKind (s .kind)) (λ _. long) (λ _. length-set g _ b ∙ long),
         ))
         (λ _. lost 18)
 
     eor-kept : s .place ≡ blockLength (s .kind) → Kept (eorByte s g w b)
     unfolding eorByte fitsPart
-    eor-kept l = by-if Kept (eqb b EOR) (λ _. (record { few = few; due = due; shape = inText (omega arith) (omega arith) q k fits }, long)) (λ _. lost 19)
+    eor-kept l = by-if Kept (eqb b EOR) (λ _. (record { few = few; due = due; shape = inText (omega arith) (omega arith) q k fits; marks = marks }, long)) (λ _. lost 19)
 
     check-kept : s .place ≡ suc (blockLength (s .kind)) → Kept (checkedByte s g w b)
     unfolding checkedByte fitsPart
-    check-kept l = by-if Kept (eqb b (s .check)) (λ _. (record { few = few; due = due; shape = inText (omega arith) (omega arith) q k fits }, long)) (λ _. lost 20)
+    check-kept l = by-if Kept (eqb b (s .check)) (λ _. (record { few = few; due = due; shape = inText (omega arith) (omega arith) q k fits; marks = marks }, long)) (λ _. lost 20)
 
     last-kept : Kept (lastByte s g w b)
     unfolding lastByte fitsPart
     last-kept =
         by-if Kept (not (eqb b TPAD)) (λ _. lost 21)
         (λ _. by-if Kept (isStartKind (s .kind))
-        (λ t. (record { few = few; due = due-first (partOf (s .kind)) (s .header) (kind-part (s .kind) k); shape = between refl refl refl refl }, grid-long))
+        (λ t. (record { few = few; due = due-first (partOf (s .kind)) (s .header) (kind-part (s .kind) k); shape = between refl refl refl refl; marks = marks }, grid-long))
         (λ t. by-if Kept (isEndKind (s .kind))
-        (λ _. by-if Kept (modeIsHighest (s .header) (s .modes)) (λ _. (record { few = few; due = due-none; shape = between refl refl refl refl }, long)) (λ _. lost 22))
-        (λ _. (record { few = few; due = due-next (s .part) (textNumber (s .kind)) (open-part t); shape = between refl refl refl refl }, long))))
+        (λ _. by-if Kept (modeIsHighest (s .header) (s .modes)) (λ _. (record { few = few; due = due-none; shape = between refl refl refl refl; marks = marks }, long)) (λ _. lost 22))
+        (λ _. (record { few = few; due = due-next (s .part) (textNumber (s .kind)) (open-part t); shape = between refl refl refl refl; marks = marks }, long))))
       where
         open-part : isStartKind (s .kind) ≡ false → isPartNumber (s .part) ≡ true
         open-part t = by-test (eqb (s .part) 0) (λ e. never t (rw e at fits)) (λ e. open-facts (s .part) (s .due) due (eqb-false (s .part) 0 e) .0)
@@ -264,8 +270,8 @@ pub step-kept : (s : State) (g : List ℕ) (b : ℕ) → Possible s → length g
 unfolding step
 step-kept s g b p long =
     by-if (λ (o : Step). Possible (o .state) × (length (o .grid) ≡ gridLength)) (endsOpening (s .seen) b)
-    (λ _. opened-kept s g (push (s .seen) b) b (push-few (s .seen) b) long (p .due))
-    (λ _. placed-kept s g (push (s .seen) b) b (push-few (s .seen) b) long (p .due) (p .shape))
+    (λ _. opened-kept s g (push (s .seen) b) b (push-few (s .seen) b) long (p .due) (p .marks))
+    (λ _. placed-kept s g (push (s .seen) b) b (push-few (s .seen) b) long (p .due) (p .marks) (p .shape))
 
-pub fresh-possible : Possible fresh
-fresh-possible = record { few = lit≤ tt; due = due-none; shape = between refl refl refl refl }
+pub fresh-possible : (n : ℕ) → Possible (fresh n)
+fresh-possible n = record { few = lit≤ tt; due = due-none; shape = between refl refl refl refl; marks = from-marks n }

@@ -16,6 +16,7 @@ use Rattle.text.specs.Kinds.{isKind, isStartKind, isEndKind, kindOf, blockLengt
 use Rattle.general_laws.proofs.Tests.{never, by-if}
 use Rattle.text_laws.proofs.KindTable.{start-is-kind}
 use Rattle.receiver_spec.specs.Seen.{push, endsOpening, dueByte}
+use Rattle.receiver_spec.specs.Marks.{isMarked}
 use Rattle.receiver_spec.specs.State.{State, isPossible}
 use Rattle.receiver_spec.specs.Contents.{takesByte}
 use Rattle.receiver_spec.specs.Receiver.{Step, opened, gapByte, pictureByte, kindByte, blockByte, eorByte, checkedByte, modeIsHighest, lastByte, placedByte, step}
@@ -26,7 +27,7 @@ use Rattle.receiver_spec.proofs.CallLists.{feed-taken}
 
 -- every answer but 11 and 15
 abbrev others : List ℕ
-others = 0 ∷ 1 ∷ 2 ∷ 3 ∷ 12 ∷ 13 ∷ 14 ∷ 16 ∷ 17 ∷ 18 ∷ 19 ∷ 20 ∷ 21 ∷ 22 ∷ []
+others = 0 ∷ 1 ∷ 2 ∷ 3 ∷ 12 ∷ 13 ∷ 14 ∷ 16 ∷ 17 ∷ 18 ∷ 19 ∷ 20 ∷ 21 ∷ 22 ∷ 51 ∷ []
 
 abbrev Among : List ℕ → Step → Type 0
 Among answers o = isIn (o .answer) answers ≡ true
@@ -61,7 +62,7 @@ module _ (s : State) (g w : List ℕ) (b : ℕ) where
 
   at-picture : Among others (pictureByte s g w b)
   unfolding pictureByte isIn
-  at-picture = by-if (Among others) (isPictureCode b) (λ _. refl) (λ _. refl)
+  at-picture = by-if (Among others) (not (isPictureCode b)) (λ _. refl) (λ _. by-if (Among others) (not (isMarked (s .marks) b)) (λ _. refl) (λ _. refl))
 
   in-block : Among others (blockByte s g w b)
   unfolding blockByte isIn

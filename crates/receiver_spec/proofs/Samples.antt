@@ -1,5 +1,5 @@
 -- Sample traffic on the receiver's definition, computed by the checker: 01's three samples, a part with a data text, and each of
--- the answers 11 to 22. A row gives, as the listening program prints them, bytes read so far and answer, for each answer but 0.
+-- the answers 11 to 22 and 51. A row gives, as the listening program prints them, bytes read so far and answer, for each answer but 0.
 -- Assumes nothing.
 use mathlib.Core.Path.{_≡_, refl}
 use mathlib.Core.Bool.{cond}
@@ -16,6 +16,7 @@ use Rattle.text.specs.DataBlock.{oddLevel, evenLevel, isIntensityByte, isTopByt
 use Rattle.text.specs.EndBlock.{isModeByte, highest}
 use Rattle.text.specs.SampleBlocks.{sampleStart, sampleEnd}
 use Rattle.receiver_spec.specs.Seen.{endsOpening, dueByte}
+use Rattle.receiver_spec.specs.Marks.{markedAmong, markedPictures, isMarked, areMarks, allMarks, marksFrom}
 use Rattle.receiver_spec.specs.State.{fresh, emptyGrid}
 use Rattle.receiver_spec.specs.Contents.{timeTakes, startTakes, begunHeader, enterHeader, endTakes, enterModes, enterGrid, takesByte}
 use Rattle.receiver_spec.specs.Receiver.{_⊕_, opened, gapByte, pictureByte, kindByte, blockByte, eorByte, checkedByte, firstDue, nextDue, modeIsHighest, lastByte, placedByte, step}
@@ -26,8 +27,12 @@ abbrev printed : ℕ → List ℕ → List ℕ
 printed n [] = []
 printed n (a ∷ rest) = cond (eqb a 0) (printed (suc n) rest) (suc n ∷ a ∷ printed (suc n) rest)
 
-pub listen : List ℕ → List ℕ
-listen bytes = printed 0 (answersOf fresh emptyGrid bytes)
+-- with the marks asked for, and with all twenty
+pub listenWith : ℕ → List ℕ → List ℕ
+listenWith marks bytes = printed 0 (answersOf (fresh marks) emptyGrid bytes)
+
+abbrev listen : List ℕ → List ℕ
+listen bytes = listenWith allMarks bytes
 
 -- 01's S and end text; a start text without NO ECHO; quality's start, data and end text; end texts of another picture and mode
 pub S : List ℕ
@@ -65,9 +70,21 @@ pub record Rows : Type 0 where
   pub answer-20 : listen (S ++ (take 38 E ++ (0x00 ∷ []))) ≡ 40 ∷ 1 ∷ 79 ∷ 20 ∷ []
   pub answer-21 : listen (S ++ (take 39 E ++ (0x00 ∷ []))) ≡ 40 ∷ 1 ∷ 80 ∷ 21 ∷ []
   pub answer-22 : listen (S ++ otherMode) ≡ 40 ∷ 1 ∷ 80 ∷ 22 ∷ []
+  -- Request 101: `CC` alone is marked, bit 7; all before it are, bits 0 to 6; none is, since bit 20 is set too
+  pub marked : listenWith 0x80 (S ++ E) ≡ 40 ∷ 1 ∷ 80 ∷ 3 ∷ []
+  pub answer-51 : listenWith 0x7F (S ++ E) ≡ 7 ∷ 51 ∷ 47 ∷ 51 ∷ []
+  pub asked-beyond : listenWith 0x100080 (S ++ E) ≡ 7 ∷ 51 ∷ 47 ∷ 51 ∷ []
+  -- 13 comes first; 51 comes in a part's later texts too, and before 17
+  pub thirteen-first : listenWith 0 (take 6 S ++ (0x00 ∷ [])) ≡ 7 ∷ 13 ∷ []
+  pub before-17 : listenWith 0x80 (S ++ otherPicture) ≡ 40 ∷ 1 ∷ 47 ∷ 51 ∷ []
+  -- the marks are kept behind 13, 51, 11 and 15
+  pub kept-13 : listenWith 0x80 (take 6 S ++ (0x00 ∷ (S ++ E))) ≡ 7 ∷ 13 ∷ 47 ∷ 1 ∷ 87 ∷ 3 ∷ []
+  pub kept-51 : listenWith 0x80 (otherPicture ++ (S ++ E)) ≡ 7 ∷ 51 ∷ 80 ∷ 1 ∷ 120 ∷ 3 ∷ []
+  pub kept-11 : listenWith 0x80 (echoing ++ (take 7 S ++ (0x11 ∷ (S ++ E)))) ≡ 40 ∷ 1 ∷ 54 ∷ 11 ∷ 88 ∷ 1 ∷ 128 ∷ 3 ∷ []
+  pub kept-15 : listenWith 0x80 (S ++ (S ++ E)) ≡ 40 ∷ 1 ∷ 48 ∷ 15 ∷ 80 ∷ 1 ∷ 120 ∷ 3 ∷ []
 
 pub rows : Rows
-unfolding listen S E echoing quality otherPicture otherMode answersOf step opened placedByte gapByte pictureByte kindByte blockByte eorByte checkedByte firstDue nextDue modeIsHighest lastByte _⊕_ endsOpening dueByte timeTakes startTakes begunHeader enterHeader endTakes enterModes enterGrid takesByte bit isIn every allOf same xorAll checkByte textOf pictureCodes isPictureCode kinds partOf textNumber kindOf isKind isStartKind isEndKind isDataKind dataTexts dataBlockLength blockLength noEchoOf modeOf hasMode isClockByte clockOf isLeapYear daysIn isMoment yearOf isTime isDigit radarCodes isRadarCode follows oddLevel evenLevel isIntensityByte isTopByte isQualityByte isPayloadByte isModeByte highest
+unfolding listenWith S E echoing quality otherPicture otherMode answersOf step opened placedByte gapByte pictureByte kindByte blockByte eorByte checkedByte firstDue nextDue modeIsHighest lastByte _⊕_ endsOpening dueByte timeTakes startTakes begunHeader enterHeader endTakes enterModes enterGrid takesByte bit isIn every allOf same xorAll checkByte textOf pictureCodes isPictureCode markedAmong markedPictures isMarked areMarks marksFrom kinds partOf textNumber kindOf isKind isStartKind isEndKind isDataKind dataTexts dataBlockLength blockLength noEchoOf modeOf hasMode isClockByte clockOf isLeapYear daysIn isMoment yearOf isTime isDigit radarCodes isRadarCode follows oddLevel evenLevel isIntensityByte isTopByte isQualityByte isPayloadByte isModeByte highest
 rows =
     record {
       start-end = refl;
@@ -84,4 +101,13 @@ rows =
       answer-20 = refl;
       answer-21 = refl;
       answer-22 = refl;
+      marked = refl;
+      answer-51 = refl;
+      asked-beyond = refl;
+      thirteen-first = refl;
+      before-17 = refl;
+      kept-13 = refl;
+      kept-51 = refl;
+      kept-11 = refl;
+      kept-15 = refl;
     }

@@ -47,11 +47,12 @@ pub data Free (v : ℕ) : List ℕ → Type 0 where
   free1 : {x : ℕ} {xs : List ℕ} → x ≢ v → Free v xs → Free v (x ∷ xs)
 
 module _ (R : Rules) where
-  open Rules R using (Held, blank, isPicture, isKind, isStart, isEnd, long, dueKind, partOf, pictureOf, begin, takes, enter, settle, firstDue, nextDue, closes)
+  open Rules R using (Held, blank, isPicture, noPicture, isKind, isStart, isEnd, long, dueKind, partOf, pictureOf, begin, takes, enter, settle, firstDue, nextDue, closes)
 
   -- What the theory asks of the rules
   pub record RuleLaws : Type 0 where
     pub fd-picture : isPicture FD ≡ false
+    pub no-picture : (b : ℕ) → noPicture b ≢ 3
     pub fd-kind : isKind FD ≡ false
     pub start-kind : (k : ℕ) → isStart k ≡ true → isKind k ≡ true
     pub part-some : (k : ℕ) → isStart k ≡ true → partOf k ≢ 0

@@ -14,11 +14,12 @@ use Rattle.text.specs.Pictures.{isPictureCode}
 use Rattle.text.specs.Kinds.{isKind, isStartKind, isEndKind, kindOf, blockLength}
 use Rattle.general_laws.proofs.Tests.{by-test, never, by-if}
 use Rattle.receiver_spec.specs.Seen.{push, endsOpening, dueByte}
+use Rattle.receiver_spec.specs.Marks.{isMarked, marksFrom}
 use Rattle.receiver_spec.specs.State.{State, fresh, emptyGrid, isPossible}
 use Rattle.receiver_spec.specs.Contents.{takesByte}
 use Rattle.receiver_spec.specs.Receiver.{Step, opened, gapByte, pictureByte, kindByte, blockByte, eorByte, checkedByte, modeIsHighest, lastByte, placedByte, step}
 use Rattle.receiver_spec.specs.Calls.{stateAfter, gridAfter}
-use Rattle.receiver_spec.proofs.Machine.{Machine, run, new, most}
+use Rattle.receiver_spec.proofs.Machine.{Rules, Machine, run, new, most}
 use Rattle.receiver_spec.proofs.Opening.{only-FD}
 use Rattle.receiver_spec.proofs.Steps.{run-append}
 use Rattle.receiver_spec.proofs.WayBack.{any-open}
@@ -129,7 +130,8 @@ module _ (s : State) (g w : List ℕ) (b : ℕ) where
 
   picture-no : No (pictureByte s g w b)
   unfolding pictureByte
-  picture-no = by-if No (isPictureCode b) (λ _ l _. omega arith) (λ _ _ l. omega arith)
+  picture-no =
+      by-if No (not (isPictureCode b)) (λ _ _ l. omega arith) (λ _. by-if No (not (isMarked (s .marks) b)) (λ _ _ l. omega arith) (λ _ l _. omega arith))
 
   kind-no : No (kindByte s g w b)
   unfolding kindByte
@@ -165,7 +167,8 @@ step-place s g b =
     (λ _. by-if P (eqb (s .place) 0)
     (λ _. by-if P (eqb (s .part) 0) (λ _. omega arith) (λ _. by-if P (eqb b (dueByte (s .seen))) (λ _. omega arith) (λ _. omega arith)))
     (λ _. by-if P (eqb (s .place) 1)
-    (λ e. by-if P (isPictureCode b) (λ _. omega (arith, eqb-true (s .place) 1 e)) (λ _. omega arith))
+    (λ e. by-if P (not (isPictureCode b)) (λ _. omega arith)
+    (λ _. by-if P (not (isMarked (s .marks) b)) (λ _. omega arith) (λ _. omega (arith, eqb-true (s .place) 1 e))))
     (λ _. by-if P (eqb (s .place) 2) (λ e. kind (eqb-true (s .place) 2 e))
     (λ _. by-if P (ltb (s .place) (blockLength (s .kind)))
     (λ _. by-if P (takesByte (s .kind) (s .header) (s .place) b) (λ _. omega arith) (λ _. omega arith))
@@ -195,21 +198,6 @@ unfolding stateAfter
 place-most [] s g = omega arith
 place-most (b ∷ bytes) s g = omega (arith, place-most bytes (step s g b .state) (step s g b .grid), step-place s g b)
 
--- an opening is followed by place 1, whatever came before it
-opened-place : (before : List ℕ) → stateAfter fresh emptyGrid (before ++ opening) .place ≡ 1
-opened-place before =
-    ap (λ (m : Machine radar). m .place)
-    (machine-after (before ++ opening) fresh emptyGrid ∙ run-append radar (new radar) before opening ∙ any-open radar radar-laws (run radar (new radar) before) .3)
-
--- so the place tells at most how many bytes came behind an opening, its `FD` counted
-pub since-opening : (before behind : List ℕ) → stateAfter fresh emptyGrid (before ++ (opening ++ behind)) .place ≤ suc (length behind)
-since-opening before behind =
-    let e : stateAfter fresh emptyGrid (before ++ (opening ++ behind))
-    ≡ stateAfter (stateAfter fresh emptyGrid (before ++ opening)) (gridAfter fresh emptyGrid (before ++ opening)) behind
-    = ap (stateAfter fresh emptyGrid) (sym (append-assoc before opening behind)) ∙ state-append (before ++ opening) behind fresh emptyGrid in
-    subst (λ (t : State). t .place ≤ suc (length behind)) (sym e)
-    (omega (arith, opened-place before, place-most behind (stateAfter fresh emptyGrid (before ++ opening)) (gridAfter fresh emptyGrid (before ++ opening))))
-
 -- ---- where the text under way began
 
 -- Behind an opening came place - 1 bytes, the picture code and the kind first
@@ -220,36 +208,58 @@ pub record Began (s : State) (taken : List ℕ) : Type 0 where
   pub place : s .place ≡ suc (length behind)
   pub kind : s .kind ≡ behind ! 1
 
-tail-began : (s : State) (g : List ℕ) {taken u : List ℕ} (z : List ℕ) → taken ≡ z ++ u → 3 ≤ s .place → Tail radar radar-laws (machine s g) u → Began s taken
-unfolding most
-tail-began s g z e l (idle hp h0) = absurd (omega arith)
-tail-began s g z e l (waiting hp o gap) = absurd (omega arith)
-tail-began s g z e l (atOne hp x f) = absurd (omega arith)
-tail-began s g z e l (atTwo hp q x f) = absurd (omega arith)
-tail-began s g z e l (inside {ys} {xs} hp h x u) =
-    record { before = z ++ ys; behind = s .picture ∷ s .kind ∷ xs; split = e ∙ sym (append-assoc z ys _); place = omega arith; kind = refl }
-tail-began s g z e l (afterEor {ys} {xs} hp h x u) =
-    record {
-      before = z ++ ys;
-      behind = s .picture ∷ s .kind ∷ (xs ++ (EOR ∷ []));
-      split = e ∙ sym (append-assoc z ys _);
-      place = omega (arith, length-append xs (EOR ∷ []));
-      kind = refl;
-    }
-tail-began s g z e l (afterCheck {ys} {xs} hp h u) =
-    let end = EOR ∷ checkByte (FD ∷ s .picture ∷ s .kind ∷ xs) ∷ [] in
-    record {
-      before = z ++ ys;
-      behind = s .picture ∷ s .kind ∷ (xs ++ end);
-      split = e ∙ sym (append-assoc z ys _);
-      place = omega (arith, length-append xs end);
-      kind = refl;
-    }
+module _ (n : ℕ) where
+  abbrev marks : ℕ
+  marks = marksFrom n
 
-pub began : (taken : List ℕ) → 3 ≤ stateAfter fresh emptyGrid taken .place → Began (stateAfter fresh emptyGrid taken) taken
-began taken l =
-    let (k, v) = history-run radar radar-laws taken {h = []} (new radar) (history [] [] refl (idle refl refl)) ([], refl) in
-    go (subst (History radar radar-laws taken) (sym (machine-after taken fresh emptyGrid)) k)
-  where
-    go : History radar radar-laws taken (machine (stateAfter fresh emptyGrid taken) (gridAfter fresh emptyGrid taken)) → Began (stateAfter fresh emptyGrid taken) taken
-    go (history z u e t) = tail-began (stateAfter fresh emptyGrid taken) (gridAfter fresh emptyGrid taken) z e l t
+  abbrev R : Rules
+  R = radar marks
+
+  -- an opening is followed by place 1, whatever came before it
+  opened-place : (before : List ℕ) → stateAfter (fresh n) emptyGrid (before ++ opening) .place ≡ 1
+  opened-place before =
+      ap (λ (m : Machine R). m .place)
+      (machine-after marks (before ++ opening) (fresh n) emptyGrid refl ∙ run-append R (new R) before opening ∙ any-open R (radar-laws marks) (run R (new R) before) .3)
+
+  -- so the place tells at most how many bytes came behind an opening, its `FD` counted
+  pub since-opening : (before behind : List ℕ) → stateAfter (fresh n) emptyGrid (before ++ (opening ++ behind)) .place ≤ suc (length behind)
+  since-opening before behind =
+      let e : stateAfter (fresh n) emptyGrid (before ++ (opening ++ behind))
+      ≡ stateAfter (stateAfter (fresh n) emptyGrid (before ++ opening)) (gridAfter (fresh n) emptyGrid (before ++ opening)) behind
+      = ap (stateAfter (fresh n) emptyGrid) (sym (append-assoc before opening behind)) ∙ state-append (before ++ opening) behind (fresh n) emptyGrid in
+      subst (λ (t : State). t .place ≤ suc (length behind)) (sym e)
+      (omega (arith, opened-place before, place-most behind (stateAfter (fresh n) emptyGrid (before ++ opening)) (gridAfter (fresh n) emptyGrid (before ++ opening))))
+
+  tail-began : (s : State) (g : List ℕ) {taken u : List ℕ} (z : List ℕ) → taken ≡ z ++ u → 3 ≤ s .place → Tail R (radar-laws marks) (machine marks s g) u → Began s taken
+  unfolding most
+  tail-began s g z e l (idle hp h0) = absurd (omega arith)
+  tail-began s g z e l (waiting hp o gap) = absurd (omega arith)
+  tail-began s g z e l (atOne hp x f) = absurd (omega arith)
+  tail-began s g z e l (atTwo hp q x f) = absurd (omega arith)
+  tail-began s g z e l (inside {ys} {xs} hp h x u) =
+      record { before = z ++ ys; behind = s .picture ∷ s .kind ∷ xs; split = e ∙ sym (append-assoc z ys _); place = omega arith; kind = refl }
+  tail-began s g z e l (afterEor {ys} {xs} hp h x u) =
+      record {
+        before = z ++ ys;
+        behind = s .picture ∷ s .kind ∷ (xs ++ (EOR ∷ []));
+        split = e ∙ sym (append-assoc z ys _);
+        place = omega (arith, length-append xs (EOR ∷ []));
+        kind = refl;
+      }
+  tail-began s g z e l (afterCheck {ys} {xs} hp h u) =
+      let end = EOR ∷ checkByte (FD ∷ s .picture ∷ s .kind ∷ xs) ∷ [] in
+      record {
+        before = z ++ ys;
+        behind = s .picture ∷ s .kind ∷ (xs ++ end);
+        split = e ∙ sym (append-assoc z ys _);
+        place = omega (arith, length-append xs end);
+        kind = refl;
+      }
+
+  pub began : (taken : List ℕ) → 3 ≤ stateAfter (fresh n) emptyGrid taken .place → Began (stateAfter (fresh n) emptyGrid taken) taken
+  began taken l =
+      let (k, v) = history-run R (radar-laws marks) taken {h = []} (new R) (history [] [] refl (idle refl refl)) ([], refl) in
+      go (subst (History R (radar-laws marks) taken) (sym (machine-after marks taken (fresh n) emptyGrid refl)) k)
+    where
+      go : History R (radar-laws marks) taken (machine marks (stateAfter (fresh n) emptyGrid taken) (gridAfter (fresh n) emptyGrid taken)) → Began (stateAfter (fresh n) emptyGrid taken) taken
+      go (history z u e t) = tail-began (stateAfter (fresh n) emptyGrid taken) (gridAfter (fresh n) emptyGrid taken) z e l t

@@ -10,7 +10,7 @@ use Rattle.receiver_spec.specs.State.{State, fresh, emptyGrid, isPossibl
 use Rattle.receiver_spec.specs.Receiver.{step}
 
 -- What a call returns. An answer: 0 quiet; 1 part begun; 2 data text taken; 3 complete, with the part's number (1
--- intensity, 2 echo top, 3 quality); 11 to 22, the row that dropped. Or a refusal, 1 or 2, which is thereby told
+-- intensity, 2 echo top, 3 quality); 11 to 22 and 51, the row that dropped. Or a refusal, 1 or 2, which is thereby told
 -- apart from answers 1 and 2
 pub data Reply : Type 0 where
   quiet : Reply
@@ -99,9 +99,9 @@ pub record After : Type 0 where
   pub taken : List ℕ
   pub said : List ℕ
 
--- before the first call
-unfoldable pub start : After
-start = record { state = fresh; grid = emptyGrid; taken = []; said = [] }
+-- before the first call: the fresh state made from a number of marks (Request 101)
+unfoldable pub start : ℕ → After
+start marks = record { state = fresh marks; grid = emptyGrid; taken = []; said = [] }
 
 -- what a call returned and left, added to that
 abbrev pub add : After → Request → CallOutcome → After
@@ -125,12 +125,12 @@ after a [] = a
 after a (c ∷ calls) = after (next a c) calls
 
 -- A list of calls starts from the fresh state and grid
-abbrev pub received : List Call → After
-received calls = after start calls
+abbrev pub received : ℕ → List Call → After
+received marks calls = after (start marks) calls
 
 -- a fresh receiver that is given bytes one by one with the byte call
-abbrev pub singly : List ℕ → After
-singly bytes = received (map (λ b. onGrid (byte b)) bytes)
+abbrev pub singly : ℕ → List ℕ → After
+singly marks bytes = received marks (map (λ b. onGrid (byte b)) bytes)
 
 -- bytes from any state and grid: the answer of each, and the state and the grid after them
 unfoldable pub answersOf : State → List ℕ → List ℕ → List ℕ

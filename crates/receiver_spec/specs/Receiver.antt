@@ -1,4 +1,4 @@
--- What the receiver does with one byte: 01's table, rows 11 to 22, in the order of the checks. Assumes nothing.
+-- What the receiver does with one byte: 01's table, rows 11 to 22, and row 51, in the order of the checks. Assumes nothing.
 use Prim.Native.Nat.{ℕ, suc}
 use mathlib.Core.Bool.{Bool, false, cond, _||_, not}
 use mathlib.Core.List.{List}
@@ -10,6 +10,7 @@ use Rattle.text.specs.Kinds.{isKind, isStartKind, isEndKind, partOf, textNumber
 use Rattle.text.specs.EndBlock.{highest, noModes}
 use Rattle.text.specs.declared.header.Header.{Header}
 use Rattle.receiver_spec.specs.Seen.{push, endsOpening, dueByte}
+use Rattle.receiver_spec.specs.Marks.{isMarked}
 use Rattle.receiver_spec.specs.State.{State, dropped, emptyGrid}
 use Rattle.receiver_spec.specs.Contents.{takesByte, begunHeader, enterHeader, enterModes, enterGrid}
 
@@ -37,38 +38,41 @@ pub record Step : Type 0 where
 abbrev pub answers : ℕ → State → List ℕ → Step
 answers n s g = record { answer = n; state = s; grid = g }
 
--- 01: dropped. State and grid are as fresh, but the last bytes seen are kept, the byte just taken among them
-abbrev pub drops : ℕ → List ℕ → Step
-drops n seen = answers n (dropped seen) emptyGrid
+-- 01: dropped. State and grid are as fresh with the same marks, but the last bytes seen are kept, the byte just taken
+-- among them
+abbrev pub drops : ℕ → State → List ℕ → Step
+drops n s seen = answers n (dropped (s .marks) seen) emptyGrid
 
 -- a state within a text, and between texts: place, kind, picture code, check byte; header and modes
 abbrev pub within : State → List ℕ → ℕ → ℕ → ℕ → ℕ → State
 within s seen place kind picture check =
-    record { seen = seen; place = place; kind = kind; picture = picture; part = s .part; due = s .due; check = check; header = s .header; modes = s .modes }
+    record { seen = seen; place = place; kind = kind; picture = picture; part = s .part; due = s .due; check = check; header = s .header; modes = s .modes; marks = s .marks }
 
-abbrev pub between : List ℕ → ℕ → ℕ → Header → List ℕ → State
-between seen part due header modes =
-    record { seen = seen; place = 0; kind = 0; picture = 0; part = part; due = due; check = 0; header = header; modes = modes }
+abbrev pub between : State → List ℕ → ℕ → ℕ → Header → List ℕ → State
+between s seen part due header modes =
+    record { seen = seen; place = 0; kind = 0; picture = 0; part = part; due = due; check = 0; header = header; modes = modes; marks = s .marks }
 
 -- An opening starts a text at place 1; an open part's header stays. Row 11: while a text is under way, drop, and the
 -- new text goes on.
 -- Notice 49, 4(1)(1-1)(c)(ア)
 unfoldable pub opened : State → List ℕ → List ℕ → Step
 opened s g seen =
-    cond (eqb (s .place) 0) (answers 0 (within s seen 1 0 0 FD) g) (answers 11 (within (dropped seen) seen 1 0 0 FD) emptyGrid)
+    cond (eqb (s .place) 0) (answers 0 (within s seen 1 0 0 FD) g) (answers 11 (within (dropped (s .marks) seen) seen 1 0 0 FD) emptyGrid)
 
 -- Between texts. With no part open, bytes are free. Row 12: with a part open, the opening must follow byte upon byte.
 -- Notice 49, 4(1)(1-1)(a) and (c)(ア), 4(1)(1-2)(a), 4(2)(a)
 unfoldable pub gapByte : State → List ℕ → List ℕ → ℕ → Step
 gapByte s g seen b =
-    cond (eqb (s .part) 0) (answers 0 (between seen 0 0 (s .header) (s .modes)) g)
-    (cond (eqb b (dueByte (s .seen))) (answers 0 (between seen (s .part) (s .due) (s .header) (s .modes)) g)
-    (drops 12 seen))
+    cond (eqb (s .part) 0) (answers 0 (between s seen 0 0 (s .header) (s .modes)) g)
+    (cond (eqb b (dueByte (s .seen))) (answers 0 (between s seen (s .part) (s .due) (s .header) (s .modes)) g)
+    (drops 12 s seen))
 
--- Block byte 1. Row 13: no picture code. Notice 49, 5(1)
+-- Block byte 1. Row 13: no picture code. Row 51: a listed code that is unmarked (Request 101). Notice 49, 5(1)
 unfoldable pub pictureByte : State → List ℕ → List ℕ → ℕ → Step
 pictureByte s g seen b =
-    cond (isPictureCode b) (answers 0 (within s seen 2 0 b (s .check ⊕ b)) g) (drops 13 seen)
+    cond (not (isPictureCode b)) (drops 13 s seen)
+    (cond (not (isMarked (s .marks) b)) (drops 51 s seen)
+    (answers 0 (within s seen 2 0 b (s .check ⊕ b)) g))
 
 -- a start kind is taken: no part is open, header and modes are 0, and the picture code enters.
 -- Notice 49, 4(1)(1-1)(c)(イ)
@@ -84,6 +88,7 @@ starting s seen b =
       check = s .check ⊕ b;
       header = begunHeader (s .picture);
       modes = noModes;
+      marks = s .marks;
     }
 
 -- Block byte 2. Row 14: no kind. Row 15: a start kind while a part is open; the part is dropped, and this text goes on.
@@ -91,12 +96,12 @@ starting s seen b =
 -- Notice 49, 4(1)(1-1)(d)(イ) and (ウ), 4(1)(1-2)(d)(イ) and (ウ), 4(2)(d)(イ) and (ウ)
 unfoldable pub kindByte : State → List ℕ → List ℕ → ℕ → Step
 kindByte s g seen b =
-    cond (not (isKind b)) (drops 14 seen)
+    cond (not (isKind b)) (drops 14 s seen)
     (cond (isStartKind b) (cond (eqb (s .part) 0) (answers 0 (starting s seen b) g) (answers 15 (starting s seen b) emptyGrid))
-    (cond (eqb (s .part) 0) (drops 16 seen)
-    (cond (not (eqb b (kindOf (s .part) (s .due)))) (drops 16 seen)
+    (cond (eqb (s .part) 0) (drops 16 s seen)
+    (cond (not (eqb b (kindOf (s .part) (s .due)))) (drops 16 s seen)
     (cond (eqb (s .picture) (s .header .picture)) (answers 0 (within s seen 3 b (s .picture) (s .check ⊕ b)) g)
-    (drops 17 seen)))))
+    (drops 17 s seen)))))
 
 -- where a block byte enters: header and modes with it. Notice 49, 4(1)(1-1)(c)(イ) and (ウ), (d)(イ)
 abbrev pub entered : State → List ℕ → ℕ → State
@@ -111,6 +116,7 @@ entered s seen b =
       check = s .check ⊕ b;
       header = cond (isStartKind (s .kind)) (enterHeader (s .header) (s .place) b) (s .header);
       modes = cond (isEndKind (s .kind)) (enterModes (s .modes) (s .place) b) (s .modes);
+      marks = s .marks;
     }
 
 -- and the grid with it, where it is payload. Notice 49, 4(1)(1-1)(c)(エ), 4(1)(1-2)(c)(エ), 4(2)(c)(エ)
@@ -122,17 +128,17 @@ enteredGrid s g b =
 -- Notice 49, 4(1)(1-1)(c)(イ) to (エ), (d)(イ) and (ウ), 4(1)(1-2)(c)(エ) and (d)(ウ), 4(2)(c)(エ) and (d)(ウ)
 unfoldable pub blockByte : State → List ℕ → List ℕ → ℕ → Step
 blockByte s g seen b =
-    cond (takesByte (s .kind) (s .header) (s .place) b) (answers 0 (entered s seen b) (enteredGrid s g b)) (drops 18 seen)
+    cond (takesByte (s .kind) (s .header) (s .place) b) (answers 0 (entered s seen b) (enteredGrid s g b)) (drops 18 s seen)
 
 -- Row 19: not `FE`. Notice 49, 4(1)(1-1)(c)(ア)
 unfoldable pub eorByte : State → List ℕ → List ℕ → ℕ → Step
 eorByte s g seen b =
-    cond (eqb b EOR) (answers 0 (within s seen (suc (s .place)) (s .kind) (s .picture) (s .check ⊕ b)) g) (drops 19 seen)
+    cond (eqb b EOR) (answers 0 (within s seen (suc (s .place)) (s .kind) (s .picture) (s .check ⊕ b)) g) (drops 19 s seen)
 
 -- Row 20: wrong check byte. Notice 49, 4(1)(1-1)(c)(ア)
 unfoldable pub checkedByte : State → List ℕ → List ℕ → ℕ → Step
 checkedByte s g seen b =
-    cond (eqb b (s .check)) (answers 0 (within s seen (suc (s .place)) (s .kind) (s .picture) (s .check)) g) (drops 20 seen)
+    cond (eqb b (s .check)) (answers 0 (within s seen (suc (s .place)) (s .kind) (s .picture) (s .check)) g) (drops 20 s seen)
 
 -- the text that is due after a start text, which may have NO ECHO.
 -- Notice 49, 4(1)(1-1)(a), 4(1)(1-2)(a), 4(2)(a), 4(1)(1-1)(d)(イ)
@@ -151,12 +157,12 @@ modeIsHighest h modes = eqb (h .mode) (highest modes)
 -- Answer 3, complete: no part open from here; header, modes and grid kept. Notice 49, 4(1)(1-1)(c)(ア)
 unfoldable pub lastByte : State → List ℕ → List ℕ → ℕ → Step
 lastByte s g seen b =
-    cond (not (eqb b TPAD)) (drops 21 seen)
+    cond (not (eqb b TPAD)) (drops 21 s seen)
     (cond (isStartKind (s .kind))
-    (answers BEGUN (between seen (partOf (s .kind)) (firstDue (partOf (s .kind)) (s .header)) (s .header) noModes) emptyGrid)
+    (answers BEGUN (between s seen (partOf (s .kind)) (firstDue (partOf (s .kind)) (s .header)) (s .header) noModes) emptyGrid)
     (cond (isEndKind (s .kind))
-    (cond (modeIsHighest (s .header) (s .modes)) (answers COMPLETE (between seen 0 0 (s .header) (s .modes)) g) (drops 22 seen))
-    (answers TAKEN (between seen (s .part) (nextDue (s .part) (textNumber (s .kind))) (s .header) (s .modes)) g)))
+    (cond (modeIsHighest (s .header) (s .modes)) (answers COMPLETE (between s seen 0 0 (s .header) (s .modes)) g) (drops 22 s seen))
+    (answers TAKEN (between s seen (s .part) (nextDue (s .part) (textNumber (s .kind))) (s .header) (s .modes)) g)))
 
 -- by the byte's place in its text. Notice 49, 4(1)(1-1)(b) and (c)(ア), 4(1)(1-2)(b), 4(2)(b)
 unfoldable pub placedByte : State → List ℕ → List ℕ → ℕ → Step

@@ -11,6 +11,7 @@ use Rattle.text.specs.StartBlock.{blankHeader}
 use Rattle.text.specs.EndBlock.{noModes}
 use Rattle.text.specs.Part.{zeros, gridLength}
 use Rattle.text.specs.declared.header.Header.{Header}
+use Rattle.receiver_spec.specs.Marks.{areMarks, marksFrom}
 
 -- 01: the state is a value
 pub record State : Type 0 where
@@ -29,14 +30,16 @@ pub record State : Type 0 where
   pub check : ℕ
   pub header : Header
   pub modes : List ℕ
+  -- the pictures that the receiver takes; nothing ever changes them (Request 101)
+  pub marks : ℕ
 
 -- the grid, all 0
 abbrev pub emptyGrid : List ℕ
 emptyGrid = zeros gridLength
 
--- State as fresh, but the last bytes seen are kept: what 01 calls dropped
-abbrev pub dropped : List ℕ → State
-dropped seen =
+-- State as fresh with these marks, but the last bytes seen are kept: what 01 calls dropped
+abbrev pub dropped : ℕ → List ℕ → State
+dropped marks seen =
     record {
       seen = seen;
       place = 0;
@@ -47,11 +50,12 @@ dropped seen =
       check = 0;
       header = blankHeader;
       modes = noModes;
+      marks = marks;
     }
 
--- Fresh: nothing seen, place 0, no part, all else 0
-abbrev pub fresh : State
-fresh = dropped []
+-- Fresh: nothing seen, place 0, no part, all else 0; made from a number of marks (Request 101)
+abbrev pub fresh : ℕ → State
+fresh n = dropped (marksFrom n) []
 
 -- The ranges that refusal 2 names, and nothing more: header and modes are not judged, and a check byte is a byte
 
@@ -84,7 +88,7 @@ kindRead s =
     ∷ fitsPart s
     ∷ [])
 
--- a possible state (01, row 2).
+-- a possible state (01, row 2, and Request 101: no marks beyond the twentieth).
 -- Notice 49, 4(1)(1-1)(a), (b), (d)(イ) and (ウ), 4(1)(1-2)(a), (b), (d)(イ) and (ウ),
 -- 4(2)(a), (b), (d)(イ) and (ウ), 5(1)
 unfoldable pub isPossible : State → Bool
@@ -93,4 +97,5 @@ isPossible s =
     leb (length (s .seen)) 5
     ∷ isDue (s .part) (s .due)
     ∷ cond (eqb (s .kind) 0) (kindUnread s) (kindRead s)
+    ∷ areMarks (s .marks)
     ∷ [])

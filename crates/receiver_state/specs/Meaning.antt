@@ -24,6 +24,7 @@ stateOf s =
       check = s .frame .check;
       header = s .header;
       modes = s .modes;
+      marks = s .marks;
     }
 
 -- 01's number of an answer; a refusal's is that of its row

@@ -1,7 +1,10 @@
-// The receiver's state, and the fresh one.
+// The receiver's state, the fresh one, and how many pictures a state has marked.
+use receiver_marks::marks::marks_from;
+use receiver_marks::marks::marks_set;
 use text::header::Header;
 ghost use mathlib.Core.Path.{_≡_};
 ghost use Rattle.receiver_spec.specs.State;
+ghost use Rattle.receiver_spec.specs.Marks.{marksSet};
 ghost use Rattle.receiver_state.specs.Meaning.{stateOf};
 
 // Where the receiver stands: place, kind and picture code of the text under way, the part open and
@@ -16,17 +19,20 @@ pub struct Frame {
     pub count: u8,
 }
 
-// 01's state. The last bytes seen are the low bytes of one number, the newest lowest.
+// 01's state. The last bytes seen are the low bytes of one number, the newest lowest. The marks are
+// one number too, with `C0` at bit 0 (Request 101).
 pub struct State {
     pub seen: u64,
     pub frame: Frame,
     pub header: Header,
     pub modes: [u8; 8],
+    pub marks: u32,
 }
 
-// The fresh state: nothing seen, place 0, no part, all else 0
-pub fn fresh() -> State
-    ensures { λ r. ⌜ stateOf r ≡ Rattle.receiver_spec.specs.State.fresh ⌝ }
+// The fresh state with these marks: nothing seen, place 0, no part, all else 0. A number with a mark
+// beyond the twentieth gives a receiver with no mark at all (Request 101)
+pub fn fresh(marks: u32) -> State
+    ensures { λ r. ⌜ stateOf r ≡ Rattle.receiver_spec.specs.State.fresh marks ⌝ }
     ensures { λ r. ⌜ r .seen ≡ 0 ⌝ }
 {
     State {
@@ -49,5 +55,14 @@ pub fn fresh() -> State
             noecho: false,
         },
         modes: [0; 8],
+        marks: marks_from(marks),
     }
+}
+
+// How many of the twenty marks are set, in any state: bits beyond the twentieth are not counted
+// (Request 101)
+pub fn count_marks(s: State) -> u32
+    ensures { λ r. ⌜ r ≡ marksSet (stateOf s .marks) ⌝ }
+{
+    marks_set(s.marks)
 }

@@ -11,7 +11,9 @@ use Rattle.text.specs.Kinds.{isKind, isStartKind, kindOf, blockLength}
 use Rattle.general_laws.proofs.Tests.{by-test, both-read, reads}
 use Rattle.text_laws.proofs.KindTable.{start-is-kind}
 use Rattle.receiver_spec.specs.Seen.{push, endsOpening, dueByte}
+use Rattle.receiver_spec.specs.Marks.{isMarked}
 use Rattle.receiver_spec.specs.State
+use Rattle.receiver_spec.proofs.Laws.{unlisted-unmarked}
 use Rattle.receiver_spec.specs.Contents.{begunHeader}
 use Rattle.receiver_spec.specs.Receiver as R
 use Rattle.receiver_spec.specs.Receiver.{step}
@@ -32,7 +34,7 @@ module _ (s : State) (g : List ℕ) (b : ℕ) where
   abbrev u : List ℕ
   u = seenOf (pushSeen (s .seen) b) (pushCount (s .frame .count))
 
-  lost-same : (n : ℕ) → Means g b (drops t n) (R.drops n u)
+  lost-same : (n : ℕ) → Means g b (drops t n) (R.drops n (stateOf s) u)
   unfolding pushedState
   lost-same n = rest-of-text.lost-same t g b n
 
@@ -47,7 +49,10 @@ module _ (s : State) (g : List ℕ) (b : ℕ) where
 
   picture-same : Means g b (pictureDecided t b) (R.pictureByte (stateOf s) g u b)
   unfolding pictureDecided goesOn onward numberOf applied pushedState R.pictureByte
-  picture-same = both-read (isPictureCode b) reads (lost-same 13)
+  picture-same =
+      by-test (isPictureCode b)
+      (λ e. by-test (isMarked (s .marks) b) (λ m. rw (e, m) reads) (λ m. rw (e, m) (lost-same 51)))
+      (λ e. rw (e, unlisted-unmarked (s .marks) b e) (lost-same 13))
 
   -- a start kind, and another
   start-same : isStartKind b ≡ true → Means g b (kindDecided t b) (R.kindByte (stateOf s) g u b)

@@ -7,6 +7,7 @@ use Rattle.text.specs.Text.{FD}
 use Rattle.text.specs.Pictures.{isPictureCode}
 use Rattle.text.specs.Kinds.{isKind, isStartKind, kindOf}
 use Rattle.receiver_spec.specs.Seen.{endsOpening, dueByte}
+use Rattle.receiver_spec.specs.Marks.{isMarked}
 use Rattle.receiver_spec.specs.Receiver.{_⊕_}
 use Rattle.receiver_bytes_seen.specs.AsNumber.{seenOf, pushSeen, pushCount}
 use Rattle.receiver_state.specs.declared.state.Frame.{Frame}
@@ -43,9 +44,10 @@ gapDecided s due b =
     cond (eqb (s .frame .part) 0) (quietly s (atGap 0 0 (s .frame .count)))
     (cond (eqb b due) (quietly s (atGap (s .frame .part) (s .frame .due) (s .frame .count))) (drops s 12))
 
--- block byte 1. Row 13. Notice 49, 5(1)
+-- block byte 1. Row 13, and row 51 (Request 101). Notice 49, 5(1)
 unfoldable pub pictureDecided : State → ℕ → Decision
-pictureDecided s b = cond (isPictureCode b) (quietly s (onward (s .frame) 2 0 b b)) (drops s 13)
+pictureDecided s b =
+    cond (isMarked (s .marks) b) (quietly s (onward (s .frame) 2 0 b b)) (cond (isPictureCode b) (drops s 51) (drops s 13))
 
 -- a start kind is taken. Row 15. Notice 49, 4(1)(1-1)(c)(イ)
 unfoldable pub startDecided : State → ℕ → Decision
@@ -71,7 +73,7 @@ unfoldable pub pushedState : State → ℕ → State
 pushedState s b =
     state (pushSeen (s .seen) b)
     (frame (s .frame .place) (s .frame .kind) (s .frame .picture) (s .frame .part) (s .frame .due) (s .frame .check) (pushCount (s .frame .count)))
-    (s .header) (s .modes)
+    (s .header) (s .modes) (s .marks)
 
 -- one byte: an opening is looked for before every other check. Notice 49, 4(1)(1-1)(c)(ア)
 unfoldable pub decide : State → ℕ → Decision

@@ -34,6 +34,7 @@ fn pushed_state(s: State, b: u8) -> State
         },
         header,
         modes,
+        marks: s.marks,
     }
 }
 

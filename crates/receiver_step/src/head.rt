@@ -1,8 +1,9 @@
-// A text's picture code and kind (01, rows 13 to 17).
+// A text's picture code and kind (01, rows 13 to 17; Request 101, row 51).
 use receiver_decisions::decision::Decision;
 use receiver_decisions::decision::begins;
 use receiver_decisions::decision::drops;
 use receiver_decisions::decision::goes_on;
+use receiver_marks::marks::is_marked;
 use receiver_state::answer::Answer;
 use receiver_state::grid::Effect;
 use receiver_state::state::Frame;
@@ -30,13 +31,17 @@ fn onward(f: Frame, place: u16, kind: u8, picture: u8, b: u8) -> Frame
     }
 }
 
-// Block byte 1. Row 13: no picture code. Notice 49, 5(1)
+// Block byte 1. Row 13: no picture code. Row 51: a listed code that is unmarked (Request 101). A
+// marked code is listed, so what is to go on is asked once. Notice 49, 5(1)
 pub(crate) fn picture_decided(s: State, b: u8) -> Decision
     ensures { λ r. ⌜ r ≡ pictureDecided s b ⌝ }
 {
     let f = s.frame;
-    if is_picture_code(b) {
+    if is_marked(s.marks, b) {
         return goes_on(s, onward(f, 2, 0, b, b), Answer::Quiet, Effect::Keep);
+    }
+    if is_picture_code(b) {
+        return drops(s, 51);
     }
     drops(s, 13)
 }

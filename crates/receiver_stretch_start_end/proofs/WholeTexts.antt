@@ -5,13 +5,12 @@ use mathlib.Core.List.{List, [], _∷_, _++_, tail-eq-of-cons-eq}
 use Prim.Native.Nat.{ℕ, suc, _≤_, _<_}
 use native.Mathlib.Nat.{zero-add}
 use native.Mathlib.Omega.{arith}
-use lib.Dec.{eqb}
+use lib.Dec.{eqb, lit≤}
 use lib.ListN.{length, getD, take, drop, length-drop}
-use lib.Seq.{take-add, length-take-le}
+use lib.Seq.{take-add, length-take-le, getD-take}
 use borrow.Author.Tests.{eqb-true, not-true, not-false}
 use Rattle.general_laws.specs.Bytes.{_!_}
 use Rattle.text.specs.Text.{FD, EOR, checkByte}
-use Rattle.text.specs.Pictures.{isPictureCode}
 use Rattle.text.specs.Kinds.{kindOf, blockLength}
 use Rattle.text.specs.StartBlock.{isStartBlock, headerOf}
 use Rattle.text.specs.EndBlock.{noModes, isEndBlock, modesOf}
@@ -23,7 +22,8 @@ use Rattle.text_start_block.specs.declared.read.StartRead.{StartRead}
 use Rattle.text_end_block.specs.Read.{endRead}
 use Rattle.text_end_block.specs.declared.read.EndRead.{EndRead}
 use Rattle.receiver_spec.specs.Seen.{endsOpening}
-use Rattle.receiver_spec.proofs.Laws.{Machine, mk, AllQuiet, block, opening-seen, seenControl, seenCheck, start-quiet, due-quiet, held, radar, radar-laws, machine, start-taken, end-taken}
+use Rattle.receiver_spec.specs.Marks.{isMarked}
+use Rattle.receiver_spec.proofs.Laws.{Rules, Machine, mk, AllQuiet, block, opening-seen, seenControl, seenCheck, start-quiet, due-quiet, held, radar, radar-laws, machine, start-taken, end-taken}
 use Rattle.receiver_bytes_seen.specs.AsNumber.{seenOf}
 use Rattle.receiver_bytes_seen.specs.Behind.{seenAfter}
 use Rattle.receiver_bytes_seen.proofs.Laws.{count-five}
@@ -38,16 +38,20 @@ use Rattle.receiver_stretch_start_end.proofs.BetweenTexts.{idle-has, ga
 
 -- quiet bytes, five or more
 long-passed :
-    {m n : Machine radar} (s : State) (g : List ℕ) (len : ℕ) (bytes : List ℕ) → machine (stateOf s) g ≡ m → AllQuiet radar m (take len bytes) n → Bytes bytes
-    → len ≤ length bytes → 5 ≤ len → run s g (take len bytes) 0 ≡ passed (stateOfMachine (seenAfter (s .seen) (take len bytes)) 5 n) (n .held .grid) len
-long-passed {n} s g len bytes e q small inside five =
+    (s : State) {m n : Machine (radar (s .marks))} (g : List ℕ) (len : ℕ) (bytes : List ℕ) → machine (s .marks) (stateOf s) g ≡ m → AllQuiet (radar (s .marks)) m (take len bytes) n → Bytes bytes
+    → len ≤ length bytes → 5 ≤ len
+    → run s g (take len bytes) 0 ≡ passed (stateOfMachine (s .marks) (s .marks) (seenAfter (s .seen) (take len bytes)) 5 n) (n .held .grid) len
+long-passed s {n} g len bytes e q small inside five =
     let xs = take len bytes in
     let size : length xs ≡ len = length-take-le len bytes inside in
-    quiet-passed s g 0 q e (bytes-front len bytes small)
-    ∙ ap₂ (λ c i. passed (stateOfMachine (seenAfter (s .seen) xs) c n) (n .held .grid) i) (count-five (s .frame .count) xs (omega (arith, size, five))) (zero-add (length xs) ∙ size)
+    quiet-passed (s .marks) s g 0 q refl e (bytes-front len bytes small)
+    ∙ ap₂ (λ c i. passed (stateOfMachine (s .marks) (s .marks) (seenAfter (s .seen) xs) c n) (n .held .grid) i) (count-five (s .frame .count) xs (omega (arith, size, five))) (zero-add (length xs) ∙ size)
 
 module _ (s : State) (bytes : List ℕ) (opened : endsOpening (seenOf (s .seen) (s .frame .count)) FD ≡ true)
-    (inside : 34 ≤ length bytes) (small : Bytes bytes) (eor : bytes ! 32 ≡ EOR) (checked : bytes ! 33 ≡ checkByte (blockAhead bytes)) where
+    (inside : 34 ≤ length bytes) (small : Bytes bytes) (eor : bytes ! 32 ≡ EOR) (checked : bytes ! 33 ≡ checkByte (blockAhead bytes)) (marked : isMarked (s .marks) (bytes ! 1) ≡ true) where
+  abbrev R : Rules
+  R = radar (s .marks)
+
   abbrev here : List ℕ
   here = blockAhead bytes
 
@@ -76,29 +80,33 @@ module _ (s : State) (bytes : List ℕ) (opened : endsOpening (seenOf (s .seen) 
   abbrev xs : List ℕ
   xs = drop 3 here
 
+  -- the picture code is that of the block
+  marked-here : isMarked (s .marks) q ≡ true
+  marked-here = subst (λ x. isMarked (s .marks) x ≡ true) (sym (getD-take 32 bytes 1 0 (lit≤ tt))) marked
+
   size : length xs ≡ 29
   size = omega (arith, long, length-drop 3 here)
 
   pub start-whole : isIdle (s .frame) ≡ true → isStartBlock here ≡ true → (g : List ℕ)
-      → run s g (take 34 bytes) 0 ≡ passed (state seen (frame 34 k q 0 0 (checkByte here) 5) (headerOf here) noModes) g 34
+      → run s g (take 34 bytes) 0 ≡ passed (state seen (frame 34 k q 0 0 (checkByte here) 5) (headerOf here) noModes (s .marks)) g 34
   start-whole idle ok g =
       let r = start-rules here ok in
       let (place, part, kind, picture, due, check) = idle-has s idle in
       let before = held (s .header) (s .modes) g in
       let after = held (headerOf here) noModes g in
-      let whole : here ≡ block radar q k xs = split-3 here (omega (arith, long)) (r .first) in
-      let contents = start-taken q k before after xs (r .picture) (r .kind) size .1 (subst (λ b. isStartBlock b ≡ true) whole ok, ap (λ b. held (headerOf b) noModes g) whole) in
-      let quiet = start-quiet radar radar-laws (r .picture) (r .kind) (omega (arith, size, start-block-length k (r .kind))) contents in
-      subst₂ (λ i b. run s g (take 34 bytes) 0 ≡ passed (stateOfMachine seen 5 (mk radar [] i k q 0 0 (checkByte b) after)) g 34)
+      let whole : here ≡ block R q k xs = split-3 here (omega (arith, long)) (r .first) in
+      let contents = start-taken (s .marks) q k before after xs (r .picture) (r .kind) size .1 (subst (λ b. isStartBlock b ≡ true) whole ok, ap (λ b. held (headerOf b) noModes g) whole) in
+      let quiet = start-quiet R (radar-laws (s .marks)) marked-here (r .kind) (omega (arith, size, start-block-length k (r .kind))) contents in
+      subst₂ (λ i b. run s g (take 34 bytes) 0 ≡ passed (stateOfMachine (s .marks) (s .marks) seen 5 (mk R [] i k q 0 0 (checkByte b) after)) g 34)
       (ap (λ n. suc (suc n)) (start-block-length k (r .kind))) (sym whole)
       (long-passed s g 34 bytes (rw (place, part, kind, picture, due, check, control))
-      (subst (λ t. AllQuiet radar (mk radar seenControl 0 0 0 0 0 0 before) t (mk radar (seenCheck radar radar-laws q k xs) (suc (suc (blockLength k))) k q 0 0 (checkByte (block radar q k xs)) after))
+      (subst (λ t. AllQuiet R (mk R seenControl 0 0 0 0 0 0 before) t (mk R (seenCheck R (radar-laws (s .marks)) q k xs) (suc (suc (blockLength k))) k q 0 0 (checkByte (block R q k xs)) after))
       (sym (stretch ∙ ap (λ b. b ++ (EOR ∷ checkByte b ∷ [])) whole)) quiet)
       small inside (omega arith))
 
   pub end-whole : length (s .modes) ≡ 8 → isGap (s .frame) ≡ true → q ≡ s .header .picture → k ≡ kindOf (s .frame .part) (s .frame .due)
       → isEndBlock (s .header .radars) here ≡ true → (g : List ℕ)
-      → run s g (take 34 bytes) 0 ≡ passed (state seen (frame 34 k q (s .frame .part) (s .frame .due) (checkByte here) 5) (s .header) (modesOf here)) g 34
+      → run s g (take 34 bytes) 0 ≡ passed (state seen (frame 34 k q (s .frame .part) (s .frame .due) (checkByte here) 5) (s .header) (modesOf here) (s .marks)) g 34
   end-whole eight gap hq hk ok g =
       let r = end-rules (s .header .radars) here ok in
       let (place, part, kind, picture, check) = gap-has s gap in
@@ -106,14 +114,14 @@ module _ (s : State) (bytes : List ℕ) (opened : endsOpening (seenOf (s .seen) 
       let d = s .frame .due in
       let before = held (s .header) (s .modes) g in
       let after = held (s .header) (modesOf here) g in
-      let whole : here ≡ block radar q k xs = split-3 here (omega (arith, long)) (r .first) in
-      let contents = end-taken q k (s .header) (s .modes) g after xs (r .picture) (r .kind) eight size .1 (subst (λ b. isEndBlock (s .header .radars) b ≡ true) whole ok, ap (λ b. held (s .header) (modesOf b) g) whole) in
-      let quiet = due-quiet radar radar-laws {c = before} p d part (subst (λ x. isPictureCode x ≡ true) hq (r .picture)) hk (end-is-kind k (r .kind)) (end-not-start k (r .kind)) (omega (arith, size, end-block-length k (r .kind))) contents in
-      let framed : here ≡ block radar (s .header .picture) k xs = whole ∙ ap (λ x. block radar x k xs) hq in
-      subst (λ i. run s g (take 34 bytes) 0 ≡ passed (stateOfMachine seen 5 (mk radar [] i k q p d (checkByte here) after)) g 34) (ap (λ n. suc (suc n)) (end-block-length k (r .kind)))
-      (subst₂ (λ x b. run s g (take 34 bytes) 0 ≡ passed (stateOfMachine seen 5 (mk radar [] (suc (suc (blockLength k))) k x p d (checkByte b) after)) g 34) (sym hq) (sym framed)
+      let whole : here ≡ block R q k xs = split-3 here (omega (arith, long)) (r .first) in
+      let contents = end-taken (s .marks) q k (s .header) (s .modes) g after xs (r .picture) (r .kind) eight size .1 (subst (λ b. isEndBlock (s .header .radars) b ≡ true) whole ok, ap (λ b. held (s .header) (modesOf b) g) whole) in
+      let quiet = due-quiet R (radar-laws (s .marks)) {c = before} p d part (subst (λ x. isMarked (s .marks) x ≡ true) hq marked-here) hk (end-is-kind k (r .kind)) (end-not-start k (r .kind)) (omega (arith, size, end-block-length k (r .kind))) contents in
+      let framed : here ≡ block R (s .header .picture) k xs = whole ∙ ap (λ x. block R x k xs) hq in
+      subst (λ i. run s g (take 34 bytes) 0 ≡ passed (stateOfMachine (s .marks) (s .marks) seen 5 (mk R [] i k q p d (checkByte here) after)) g 34) (ap (λ n. suc (suc n)) (end-block-length k (r .kind)))
+      (subst₂ (λ x b. run s g (take 34 bytes) 0 ≡ passed (stateOfMachine (s .marks) (s .marks) seen 5 (mk R [] (suc (suc (blockLength k))) k x p d (checkByte b) after)) g 34) (sym hq) (sym framed)
       (long-passed s g 34 bytes (rw (place, kind, picture, check, control))
-      (subst (λ t. AllQuiet radar (mk radar seenControl 0 0 0 p d 0 before) t (mk radar (seenCheck radar radar-laws (s .header .picture) k xs) (suc (suc (blockLength k))) k (s .header .picture) p d (checkByte (block radar (s .header .picture) k xs)) after))
+      (subst (λ t. AllQuiet R (mk R seenControl 0 0 0 p d 0 before) t (mk R (seenCheck R (radar-laws (s .marks)) (s .header .picture) k xs) (suc (suc (blockLength k))) k (s .header .picture) p d (checkByte (block R (s .header .picture) k xs)) after))
       (sym (stretch ∙ ap (λ b. b ++ (EOR ∷ checkByte b ∷ [])) framed)) quiet)
       small inside (omega arith)))
 
@@ -172,14 +180,14 @@ module _ (s : State) (bytes : List ℕ) {check : ℕ} {read : StartRead} (c : ch
       rw none
 
   pub start-on : {seen : ℕ} → Failed bytes check (read .kept) ≡ false → isIdle (s .frame) ≡ true → endsOpening (seenOf (s .seen) (s .frame .count)) FD ≡ true
-      → 34 ≤ length bytes → Bytes bytes → seen ≡ seenAfter (s .seen) (take 34 bytes) → (g : List ℕ)
-      → passed (state seen (frame 34 (blockAhead bytes ! 2) (blockAhead bytes ! 1) 0 0 check 5) (read .header) noModes) g 34 ≡ run s g (take (startAhead bytes) bytes) 0
+      → 34 ≤ length bytes → Bytes bytes → isMarked (s .marks) (bytes ! 1) ≡ true → seen ≡ seenAfter (s .seen) (take 34 bytes) → (g : List ℕ)
+      → passed (state seen (frame 34 (blockAhead bytes ! 2) (blockAhead bytes ! 1) 0 0 check 5) (read .header) noModes (s .marks)) g 34 ≡ run s g (take (startAhead bytes) bytes) 0
   unfolding startAhead
-  start-on {seen} f idle opened inside small v g =
+  start-on {seen} f idle opened inside small marked v g =
       let all : (isFramed bytes && isStartBlock (blockAhead bytes)) ≡ true = not-false _ (sym (failed-is bytes c kept-is) ∙ f) in
       let (eor, checked, ok) = whole-has bytes (isStartBlock (blockAhead bytes)) all in
       rw (all, v, c, ap (λ (x : StartRead). x .header) r ∙ header-start (blockAhead bytes) ok)
-      (sym (start-whole s bytes opened inside small eor checked idle ok g))
+      (sym (start-whole s bytes opened inside small eor checked marked idle ok g))
 
 -- the due end text's picture code and kind
 abbrev IsDueEnd : State → List ℕ → Bool
@@ -212,17 +220,17 @@ module _ (s : State) (bytes : List ℕ) {gap : Bool} {kind : ℕ} (g : gap ≡ i
         rw (is-due, none)
 
     pub end-on : {seen : ℕ} → Failed bytes check (read .kept) ≡ false → length (s .modes) ≡ 8 → endsOpening (seenOf (s .seen) (s .frame .count)) FD ≡ true
-        → 34 ≤ length bytes → Bytes bytes → seen ≡ seenAfter (s .seen) (take 34 bytes) → (h : List ℕ)
-        → passed (state seen (frame 34 (blockAhead bytes ! 2) (blockAhead bytes ! 1) (s .frame .part) (s .frame .due) check 5) (s .header) (read .modes)) h 34
+        → 34 ≤ length bytes → Bytes bytes → isMarked (s .marks) (bytes ! 1) ≡ true → seen ≡ seenAfter (s .seen) (take 34 bytes) → (h : List ℕ)
+        → passed (state seen (frame 34 (blockAhead bytes ! 2) (blockAhead bytes ! 1) (s .frame .part) (s .frame .due) check 5) (s .header) (read .modes) (s .marks)) h 34
         ≡ run s h (take (endAhead s bytes) bytes) 0
     unfolding endAhead
-    end-on {seen} f eight opened inside small v h =
+    end-on {seen} f eight opened inside small marked v h =
         let all : (isFramed bytes && isEndBlock (s .header .radars) (blockAhead bytes)) ≡ true = not-false _ (sym (failed-is bytes c end-kept) ∙ f) in
         let (eor, checked, ok) = whole-has bytes (isEndBlock (s .header .radars) (blockAhead bytes)) all in
         let (front, last) = and-split (isGap (s .frame) && eqb (blockAhead bytes ! 1) (s .header .picture)) (eqb (blockAhead bytes ! 2) (kindOf (s .frame .part) (s .frame .due))) is-due in
         let (waits, picture) = and-split (isGap (s .frame)) (eqb (blockAhead bytes ! 1) (s .header .picture)) front in
         rw (is-due, all, v, c, ap (λ (x : EndRead). x .modes) r ∙ modes-end (s .header .radars) (blockAhead bytes) ok)
-        (sym (end-whole s bytes opened inside small eor checked eight waits (eqb-true _ _ picture) (eqb-true _ _ last) ok h))
+        (sym (end-whole s bytes opened inside small eor checked marked eight waits (eqb-true _ _ picture) (eqb-true _ _ last) ok h))
 
 -- a byte of the block
 pub in-block : (bytes : List ℕ) (i : ℕ) → 34 ≤ length bytes → i < 32 → i < length (blockAhead bytes)

@@ -12,6 +12,7 @@ use Rattle.text.specs.Kinds.{kindOf}
 use Rattle.text.specs.StartBlock.{isStartBlock}
 use Rattle.text.specs.EndBlock.{isEndBlock}
 use Rattle.receiver_spec.specs.Seen.{endsOpening, dueByte}
+use Rattle.receiver_spec.specs.Marks.{isMarked}
 use Rattle.receiver_bytes_seen.specs.AsNumber.{seenOf, pushSeen, pushCount}
 use Rattle.receiver_bytes_seen.specs.Behind.{seenAfter, countAfter}
 use Rattle.receiver_state.specs.declared.state.Frame.{Frame}
@@ -86,15 +87,15 @@ endAhead s bytes =
     && isFramed bytes
     && isEndBlock (s .header .radars) block) 34 0
 
--- either, behind an opening. Notice 49, 4(1)(1-1)(c)(ア)
+-- either, behind an opening, of a marked picture (Request 101). Notice 49, 4(1)(1-1)(c)(ア), 5(1)
 unfoldable pub textAhead : State → List ℕ → ℕ
 textAhead s bytes =
     cond (leb 34 (length bytes) && endsOpening (seenOf (s .seen) (s .frame .count)) FD)
-    (cond (isIdle (s .frame)) (startAhead bytes) (endAhead s bytes)) 0
+    (cond (isMarked (s .marks) (bytes ! 1)) (cond (isIdle (s .frame)) (startAhead bytes) (endAhead s bytes)) 0) 0
 
 -- ---- both, one behind the other
 
--- bytes between texts, and such a text behind them. Notice 49, 4(1)(1-1)(c)(ア)
+-- bytes between texts, and such a text behind them (Request 101: of a marked picture). Notice 49, 4(1)(1-1)(c)(ア), 5(1)
 unfoldable pub edgeAhead : State → List ℕ → ℕ
 edgeAhead s bytes =
     let n = waitLength s bytes in

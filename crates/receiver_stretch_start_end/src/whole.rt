@@ -3,6 +3,7 @@ use crate::between::is_gap;
 use crate::between::is_idle;
 use receiver_bytes_seen::behind::seen_behind;
 use receiver_bytes_seen::seen::ends_opening;
+use receiver_marks::marks::is_marked;
 use receiver_state::state::Frame;
 use receiver_state::state::State;
 use receiver_stretches::stretch::StretchResult;
@@ -14,18 +15,22 @@ ghost use mathlib.Core.Path.{_≡_};
 ghost use mathlib.Core.Bool.{true};
 ghost use Prim.Native.Nat.{_≤_};
 ghost use lib.ListN.{length, take};
+ghost use Rattle.general_laws.specs.Bytes.{_!_};
 ghost use Rattle.text.specs.Text.{FD};
+ghost use Rattle.receiver_spec.specs.Marks.{isMarked};
 ghost use Rattle.receiver_spec.specs.Seen.{endsOpening};
 ghost use Rattle.receiver_bytes_seen.specs.AsNumber.{seenOf};
 ghost use Rattle.receiver_stretches.specs.Run.{Passes};
 ghost use Rattle.receiver_stretch_start_end.specs.Ahead.{isIdle, startAhead, endAhead, textAhead};
 
-// Past a start text that stands here whole from its `FD` on, up to its last byte.
+// Past a start text, of a picture that was found marked (Request 101), that stands here whole from its
+// `FD` on, up to its last byte.
 // Notice 49, 4(1)(1-1)(c)(ア) and (イ), (d)(イ)
 fn start_ahead(s: State, bytes: &[u8]) -> StretchResult
     requires { ⌜ isIdle (s .frame) ≡ true ⌝ }
     requires { ⌜ endsOpening (seenOf (s .seen) (s .frame .count)) FD ≡ true ⌝ }
     requires { ⌜ 34 ≤ length (now bytes) ⌝ }
+    requires { ⌜ isMarked (s .marks) (now bytes ! 1) ≡ true ⌝ }
     ensures { λ r. ⌜ Passes s (take (startAhead (now (bytes .entry))) (now (bytes .entry))) r ⌝ }
 {
     let block = &bytes[..32];
@@ -50,15 +55,18 @@ fn start_ahead(s: State, bytes: &[u8]) -> StretchResult
         frame,
         header,
         modes: [0; 8],
+        marks: s.marks,
     };
     StretchResult { state, at: 34 }
 }
 
-// Past the due end text if it stands here whole from its `FD` on, up to its last byte.
+// Past the due end text, of a picture that was found marked (Request 101), if it stands here whole
+// from its `FD` on, up to its last byte.
 // Notice 49, 4(1)(1-1)(c)(ア) and (ウ), (d)(イ)
 fn end_ahead(s: State, bytes: &[u8]) -> StretchResult
     requires { ⌜ endsOpening (seenOf (s .seen) (s .frame .count)) FD ≡ true ⌝ }
     requires { ⌜ 34 ≤ length (now bytes) ⌝ }
+    requires { ⌜ isMarked (s .marks) (now bytes ! 1) ≡ true ⌝ }
     ensures { λ r. ⌜ Passes s (take (endAhead s (now (bytes .entry))) (now (bytes .entry))) r ⌝ }
 {
     let f = s.frame;
@@ -91,17 +99,21 @@ fn end_ahead(s: State, bytes: &[u8]) -> StretchResult
         frame,
         header,
         modes,
+        marks: s.marks,
     };
     StretchResult { state, at: 34 }
 }
 
-// Past a start or end text, up to its last byte, where it stands here whole behind the opening.
-// Notice 49, 4(1)(1-1)(c)(ア)
+// Past a start or end text, up to its last byte, where it stands here whole behind the opening and its
+// picture is marked (Request 101). Notice 49, 4(1)(1-1)(c)(ア), 5(1)
 pub(crate) fn text_ahead(s: State, bytes: &[u8]) -> StretchResult
     ensures { λ r. ⌜ Passes s (take (textAhead s (now (bytes .entry))) (now (bytes .entry))) r ⌝ }
 {
     let f = s.frame;
     if (bytes.len() < 34) | !ends_opening(s.seen, f.count, 0xFD) {
+        return StretchResult { state: s, at: 0 };
+    }
+    if !is_marked(s.marks, bytes[1]) {
         return StretchResult { state: s, at: 0 };
     }
     if is_idle(f) {

@@ -10,6 +10,7 @@ use libc::STDOUT_FILENO;
 use terminal::Answer;
 use terminal::State;
 use terminal::WriteResult;
+use terminal::all_marks;
 use terminal::fresh;
 use terminal::payload_length;
 use terminal::slice_call;
@@ -123,7 +124,7 @@ fn read_and_feed(
 // from a number that no run uses up
 fn feed_all(grid: &mut [u8], buffer: &mut [u8], output: &mut [u8]) {
     let mut fed = FeedResult {
-        state: fresh(),
+        state: fresh(all_marks()),
         goes_on: true,
     };
     let mut turns = u64::MAX;

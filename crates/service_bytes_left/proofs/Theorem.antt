@@ -52,13 +52,13 @@ rest-is s p n = omega (arith, place-in-text s p n)
 -- ---- the opening
 
 -- An opening taken, of which and of all bytes behind it an undamaged text may come, started the text under way
-same-start : (before behind rest : List ℕ) → stateAfter fresh emptyGrid (before ++ (opening ++ behind)) .kind ≢ 0 → UndamagedText (opening ++ (behind ++ rest))
-    → (stateAfter fresh emptyGrid (before ++ (opening ++ behind)) .place ≡ suc (length behind))
-    × (stateAfter fresh emptyGrid (before ++ (opening ++ behind)) .kind ≡ behind ! 1)
-same-start before behind rest n u =
+same-start : (marks : ℕ) (before behind rest : List ℕ) → stateAfter (fresh marks) emptyGrid (before ++ (opening ++ behind)) .kind ≢ 0 → UndamagedText (opening ++ (behind ++ rest))
+    → (stateAfter (fresh marks) emptyGrid (before ++ (opening ++ behind)) .place ≡ suc (length behind))
+    × (stateAfter (fresh marks) emptyGrid (before ++ (opening ++ behind)) .kind ≡ behind ! 1)
+same-start marks before behind rest n u =
     let h = before ++ (opening ++ behind) in
-    let s = stateAfter fresh emptyGrid h in
-    go (began h (place-after-kind s (sound-possible (steps-sound h fresh emptyGrid fresh-sound)) n)) (since-opening before behind)
+    let s = stateAfter (fresh marks) emptyGrid h in
+    go (began marks h (place-after-kind s (sound-possible (steps-sound h (fresh marks) emptyGrid (fresh-sound marks))) n)) (since-opening marks before behind)
   where
     go : {s : State} → Began s (before ++ (opening ++ behind)) → s .place ≤ suc (length behind) → (s .place ≡ suc (length behind)) × (s .kind ≡ behind ! 1)
     go b l = let same = no-later-opening before behind rest (b .before) (b .behind) u (b .split) (omega (arith, b .place, l)) in
@@ -132,129 +132,130 @@ fell (b ∷ (c ∷ bytes)) s g a h n none e =
       dropped = ih .dropped;
     }
 
--- ---- one call more
+module _ (marks : ℕ) where
+  -- ---- one call more
 
-byte-told : (calls : List Call) (b : ℕ) → number (ask (received calls .state) (received calls .grid) (byte b) .reply) ≡ step (received calls .state) (received calls .grid) b .answer
-byte-told calls b =
-    let a = received calls in
-    let (asked, _, _) = demand-3 (calls ++ (onGrid (byte b) ∷ [])) .each calls (onGrid (byte b)) [] refl in
-    ap (λ (o : CallOutcome). number (o .reply)) asked ∙ number-answered (a .state .part) (step (a .state) (a .grid) b .answer)
+  byte-told : (calls : List Call) (b : ℕ) → number (ask (received marks calls .state) (received marks calls .grid) (byte b) .reply) ≡ step (received marks calls .state) (received marks calls .grid) b .answer
+  byte-told calls b =
+      let a = received marks calls in
+      let (asked, _, _) = demand-3 marks (calls ++ (onGrid (byte b) ∷ [])) .each calls (onGrid (byte b)) [] refl in
+      ap (λ (o : CallOutcome). number (o .reply)) asked ∙ number-answered (a .state .part) (step (a .state) (a .grid) b .answer)
 
-falls : (calls : List Call) (r : Request) → received calls .state .kind ≢ 0
-    → let outcome = ask (received calls .state) (received calls .grid) r in
-    Falls (leftAfter calls) (leftAfter (calls ++ (onGrid r ∷ []))) (outcome .count) (number (outcome .reply))
-unfolding stateAfter answersOf
-falls calls (byte b) n =
-    let a = received calls in
-    let (asked, _, z) = demand-3 (calls ++ (onGrid (byte b) ∷ [])) .each calls (onGrid (byte b)) [] refl in
-    rw (ap (λ (o : CallOutcome). o .count) asked, byte-told calls b, ap (λ (t : After). t .state) z)
-    (fell (b ∷ []) (a .state) (a .grid) (step (a .state) (a .grid) b .answer) (calls-sound calls) n (λ e. absurd (omega arith)) refl)
-falls calls (slice bytes) n =
-    let a = received calls in
-    let o = ask (a .state) (a .grid) (slice bytes) in
-    let (t, z) = demand-3 (calls ++ (onGrid (slice bytes) ∷ [])) .each calls (onGrid (slice bytes)) [] refl in
-    let long : length (take (o .count) bytes) ≡ o .count = length-take-le (o .count) bytes (t .within) in
-    rw (ap (λ (x : After). x .state) z ∙ t .state)
-    (subst (λ m. Falls (bytesLeft (a .state)) (bytesLeft (stateAfter (a .state) (a .grid) (take (o .count) bytes))) m (number (o .reply))) long
-    (fell (take (o .count) bytes) (a .state) (a .grid) (number (o .reply)) (calls-sound calls) n (λ e. ap number (t .none (sym long ∙ e)))
-    (t .each ∙ ap (λ m. spread m (number (o .reply))) (sym long))))
+  falls : (calls : List Call) (r : Request) → received marks calls .state .kind ≢ 0
+      → let outcome = ask (received marks calls .state) (received marks calls .grid) r in
+      Falls (leftAfter marks calls) (leftAfter marks (calls ++ (onGrid r ∷ []))) (outcome .count) (number (outcome .reply))
+  unfolding stateAfter answersOf
+  falls calls (byte b) n =
+      let a = received marks calls in
+      let (asked, _, z) = demand-3 marks (calls ++ (onGrid (byte b) ∷ [])) .each calls (onGrid (byte b)) [] refl in
+      rw (ap (λ (o : CallOutcome). o .count) asked, byte-told calls b, ap (λ (t : After). t .state) z)
+      (fell (b ∷ []) (a .state) (a .grid) (step (a .state) (a .grid) b .answer) (calls-sound marks calls) n (λ e. absurd (omega arith)) refl)
+  falls calls (slice bytes) n =
+      let a = received marks calls in
+      let o = ask (a .state) (a .grid) (slice bytes) in
+      let (t, z) = demand-3 marks (calls ++ (onGrid (slice bytes) ∷ [])) .each calls (onGrid (slice bytes)) [] refl in
+      let long : length (take (o .count) bytes) ≡ o .count = length-take-le (o .count) bytes (t .within) in
+      rw (ap (λ (x : After). x .state) z ∙ t .state)
+      (subst (λ m. Falls (bytesLeft (a .state)) (bytesLeft (stateAfter (a .state) (a .grid) (take (o .count) bytes))) m (number (o .reply))) long
+      (fell (take (o .count) bytes) (a .state) (a .grid) (number (o .reply)) (calls-sound marks calls) n (λ e. ap number (t .none (sym long ∙ e)))
+      (t .each ∙ ap (λ m. spread m (number (o .reply))) (sym long))))
 
--- ---- the claim
+  -- ---- the claim
 
--- the answer of the byte behind others
-answer-behind : (bytes : List ℕ) (b : ℕ) → answersOf fresh emptyGrid (bytes ++ (b ∷ [])) ! length bytes ≡ step (stateAfter fresh emptyGrid bytes) (gridAfter fresh emptyGrid bytes) b .answer
-unfolding answersOf
-answer-behind bytes b =
-    let said = answersOf fresh emptyGrid bytes in
-    let there : length bytes ≡ length said + 0 = omega (arith, answers-long bytes fresh emptyGrid) in
-    ap₂ (λ (t : List ℕ) i. t ! i) (answers-append bytes (b ∷ []) fresh emptyGrid) there ∙ getD-append-add said _ 0 0
+  -- the answer of the byte behind others
+  answer-behind : (bytes : List ℕ) (b : ℕ) → answersOf (fresh marks) emptyGrid (bytes ++ (b ∷ [])) ! length bytes ≡ step (stateAfter (fresh marks) emptyGrid bytes) (gridAfter (fresh marks) emptyGrid bytes) b .answer
+  unfolding answersOf
+  answer-behind bytes b =
+      let said = answersOf (fresh marks) emptyGrid bytes in
+      let there : length bytes ≡ length said + 0 = omega (arith, answers-long bytes (fresh marks) emptyGrid) in
+      ap₂ (λ (t : List ℕ) i. t ! i) (answers-append bytes (b ∷ []) (fresh marks) emptyGrid) there ∙ getD-append-add said _ 0 0
 
--- a text accepted in the end: each of its bytes was one place more
-under-way : (before behind rest : List ℕ) (b : ℕ) → 2 ≤ length behind → UndamagedText (opening ++ (behind ++ (rest ++ (b ∷ []))))
-    → stateAfter fresh emptyGrid ((before ++ (opening ++ behind)) ++ rest) .kind ≢ 0 → 3 ≤ stateAfter fresh emptyGrid (before ++ (opening ++ behind)) .place
-under-way before behind rest b two u n =
-    let h = before ++ (opening ++ behind) in
-    let joined : h ++ rest ≡ before ++ (opening ++ (behind ++ rest)) = append-assoc before (opening ++ behind) rest in
-    let (place, _) = same-start before (behind ++ rest) (b ∷ []) (subst (λ t. stateAfter fresh emptyGrid t .kind ≢ 0) joined n)
-    (subst (λ t. UndamagedText (opening ++ t)) (sym (append-assoc behind rest (b ∷ []))) u) in
-    let grown : stateAfter fresh emptyGrid (before ++ (opening ++ (behind ++ rest))) .place ≤ stateAfter fresh emptyGrid h .place + length rest =
-    subst (λ (t : State). t .place ≤ stateAfter fresh emptyGrid h .place + length rest) (sym (state-append h rest fresh emptyGrid) ∙ ap (stateAfter fresh emptyGrid) joined)
-    (place-most rest (stateAfter fresh emptyGrid h) (gridAfter fresh emptyGrid h)) in
-    omega (arith, place, grown, length-append behind rest, two)
+  -- a text accepted in the end: each of its bytes was one place more
+  under-way : (before behind rest : List ℕ) (b : ℕ) → 2 ≤ length behind → UndamagedText (opening ++ (behind ++ (rest ++ (b ∷ []))))
+      → stateAfter (fresh marks) emptyGrid ((before ++ (opening ++ behind)) ++ rest) .kind ≢ 0 → 3 ≤ stateAfter (fresh marks) emptyGrid (before ++ (opening ++ behind)) .place
+  under-way before behind rest b two u n =
+      let h = before ++ (opening ++ behind) in
+      let joined : h ++ rest ≡ before ++ (opening ++ (behind ++ rest)) = append-assoc before (opening ++ behind) rest in
+      let (place, _) = same-start marks before (behind ++ rest) (b ∷ []) (subst (λ t. stateAfter (fresh marks) emptyGrid t .kind ≢ 0) joined n)
+      (subst (λ t. UndamagedText (opening ++ t)) (sym (append-assoc behind rest (b ∷ []))) u) in
+      let grown : stateAfter (fresh marks) emptyGrid (before ++ (opening ++ (behind ++ rest))) .place ≤ stateAfter (fresh marks) emptyGrid h .place + length rest =
+      subst (λ (t : State). t .place ≤ stateAfter (fresh marks) emptyGrid h .place + length rest) (sym (state-append h rest (fresh marks) emptyGrid) ∙ ap (stateAfter (fresh marks) emptyGrid) joined)
+      (place-most rest (stateAfter (fresh marks) emptyGrid h) (gridAfter (fresh marks) emptyGrid h)) in
+      omega (arith, place, grown, length-append behind rest, two)
 
--- The theorem
-pub until-text-ends : (calls : List Call) → UntilTextEnds calls
-until-text-ends calls =
-    record {
-      between = left-between s possible;
-      unread = left-unread s possible;
-      started = λ (_, n). began-here (subst (λ (t : State). Began t taken) (sym (x .state)) (began taken (subst (λ (t : State). 3 ≤ t .place) (x .state) (place-after-kind s possible n))));
-      ofKind = λ (_, n). (restLength s, left-read s possible n, λ text u k. kind-long s text possible n u k);
-      exact = λ (_, n). exact n;
-      accepted = accepted;
-      falls = λ (_, n) r. falls calls r n;
-      last = λ (_, n). last n;
-      kept = λ r grid other. let (_, _, z) = demand-3 (calls ++ (elsewhere r grid other ∷ [])) .each calls (elsewhere r grid other) [] refl in
-          ap (λ (a : After). bytesLeft (a .state)) z;
-    }
-  where
-    taken : List ℕ
-    taken = received calls .taken
+  -- The theorem
+  pub until-text-ends : (calls : List Call) → UntilTextEnds marks calls
+  until-text-ends calls =
+      record {
+        between = left-between s possible;
+        unread = left-unread s possible;
+        started = λ (_, n). began-here (subst (λ (t : State). Began t taken) (sym (x .state)) (began marks taken (subst (λ (t : State). 3 ≤ t .place) (x .state) (place-after-kind s possible n))));
+        ofKind = λ (_, n). (restLength s, left-read s possible n, λ text u k. kind-long s text possible n u k);
+        exact = λ (_, n). exact n;
+        accepted = accepted;
+        falls = λ (_, n) r. falls calls r n;
+        last = λ (_, n). last n;
+        kept = λ r grid other. let (_, _, z) = demand-3 marks (calls ++ (elsewhere r grid other ∷ [])) .each calls (elsewhere r grid other) [] refl in
+            ap (λ (a : After). bytesLeft (a .state)) z;
+      }
+    where
+      taken : List ℕ
+      taken = received marks calls .taken
 
-    s : State
-    s = received calls .state
+      s : State
+      s = received marks calls .state
 
-    x : Stepped calls
-    x = calls-stepped calls
+      x : Stepped marks calls
+      x = calls-stepped marks calls
 
-    possible : isPossible s ≡ true
-    possible = sound-possible (calls-sound calls)
+      possible : isPossible s ≡ true
+      possible = sound-possible (calls-sound marks calls)
 
-    began-here : Began s taken → StartedBy (received calls)
-    began-here b =
-        record {
-          before = b .before;
-          behind = b .behind;
-          split = b .split;
-          place = b .place;
-          kind = b .kind;
-          latest = λ earlier later e. omega (arith, b .place, subst (λ (t : State). t .place ≤ suc (length later)) (sym (x .state ∙ ap (stateAfter fresh emptyGrid) e)) (since-opening earlier later));
-        }
+      began-here : Began s taken → StartedBy (received marks calls)
+      began-here b =
+          record {
+            before = b .before;
+            behind = b .behind;
+            split = b .split;
+            place = b .place;
+            kind = b .kind;
+            latest = λ earlier later e. omega (arith, b .place, subst (λ (t : State). t .place ≤ suc (length later)) (sym (x .state ∙ ap (stateAfter (fresh marks) emptyGrid) e)) (since-opening marks earlier later));
+          }
 
-    here : s .kind ≢ 0 → (before behind rest : List ℕ) → taken ≡ before ++ (opening ++ behind) → UndamagedText (opening ++ (behind ++ rest))
-        → (s .place ≡ suc (length behind)) × (s .kind ≡ behind ! 1)
-    here n before behind rest e u =
-        let same : s ≡ stateAfter fresh emptyGrid (before ++ (opening ++ behind)) = x .state ∙ ap (stateAfter fresh emptyGrid) e in
-        subst (λ (t : State). (t .place ≡ suc (length behind)) × (t .kind ≡ behind ! 1)) (sym same)
-        (same-start before behind rest (subst (λ (t : State). t .kind ≢ 0) same n) u)
+      here : s .kind ≢ 0 → (before behind rest : List ℕ) → taken ≡ before ++ (opening ++ behind) → UndamagedText (opening ++ (behind ++ rest))
+          → (s .place ≡ suc (length behind)) × (s .kind ≡ behind ! 1)
+      here n before behind rest e u =
+          let same : s ≡ stateAfter (fresh marks) emptyGrid (before ++ (opening ++ behind)) = x .state ∙ ap (stateAfter (fresh marks) emptyGrid) e in
+          subst (λ (t : State). (t .place ≡ suc (length behind)) × (t .kind ≡ behind ! 1)) (sym same)
+          (same-start marks before behind rest (subst (λ (t : State). t .kind ≢ 0) same n) u)
 
-    exact : s .kind ≢ 0 → (before behind rest : List ℕ) → taken ≡ before ++ (opening ++ behind) → UndamagedText (opening ++ (behind ++ rest))
-        → (leftAfter calls ≡ left (length rest)) × (s .place ≡ suc (length behind))
-    exact n before behind rest e u =
-        let (i, k) = here n before behind rest e u in
-        (left-read s possible n ∙ ap left (rest-long s behind rest possible n i k u), i)
+      exact : s .kind ≢ 0 → (before behind rest : List ℕ) → taken ≡ before ++ (opening ++ behind) → UndamagedText (opening ++ (behind ++ rest))
+          → (leftAfter marks calls ≡ left (length rest)) × (s .place ≡ suc (length behind))
+      exact n before behind rest e u =
+          let (i, k) = here n before behind rest e u in
+          (left-read s possible n ∙ ap left (rest-long s behind rest possible n i k u), i)
 
-    accepted : (later : List Call) (before behind rest : List ℕ) (b : ℕ) → taken ≡ before ++ (opening ++ behind) → 2 ≤ length behind
-        → received (calls ++ later) .taken ≡ taken ++ (rest ++ (b ∷ [])) → UndamagedText (opening ++ (behind ++ (rest ++ (b ∷ []))))
-        → 1 ≤ received (calls ++ later) .said ! length (taken ++ rest) → received (calls ++ later) .said ! length (taken ++ rest) ≤ 3
-        → UnderWayWithKindRead (received calls) × (leftAfter calls ≡ left (length (rest ++ (b ∷ []))))
-    accepted later before behind rest b e two e2 u one three =
-        let answer : received (calls ++ later) .said ! length (taken ++ rest) ≡ step (stateAfter fresh emptyGrid (taken ++ rest)) (gridAfter fresh emptyGrid (taken ++ rest)) b .answer =
-        ap (λ (t : List ℕ). t ! length (taken ++ rest)) (calls-stepped (calls ++ later) .said ∙ ap (answersOf fresh emptyGrid) (e2 ∙ sym (append-assoc taken rest (b ∷ []))))
-        ∙ answer-behind (taken ++ rest) b in
-        let read : stateAfter fresh emptyGrid (taken ++ rest) .kind ≢ 0 =
-        ends-text (stateAfter fresh emptyGrid (taken ++ rest)) (gridAfter fresh emptyGrid (taken ++ rest)) b (sound-possible (steps-sound (taken ++ rest) fresh emptyGrid fresh-sound))
-        (subst (λ n. 1 ≤ n) answer one) (subst (λ n. n ≤ 3) answer three) in
-        let place : 3 ≤ s .place = subst (λ (t : State). 3 ≤ t .place) (sym (x .state ∙ ap (stateAfter fresh emptyGrid) e))
-        (under-way before behind rest b two u (subst (λ t. stateAfter fresh emptyGrid (t ++ rest) .kind ≢ 0) e read)) in
-        let n = kind-by-place s possible place in
-        (((λ z. omega (arith, place, z)), n), exact n before behind (rest ++ (b ∷ [])) e u .0)
+      accepted : (later : List Call) (before behind rest : List ℕ) (b : ℕ) → taken ≡ before ++ (opening ++ behind) → 2 ≤ length behind
+          → received marks (calls ++ later) .taken ≡ taken ++ (rest ++ (b ∷ [])) → UndamagedText (opening ++ (behind ++ (rest ++ (b ∷ []))))
+          → 1 ≤ received marks (calls ++ later) .said ! length (taken ++ rest) → received marks (calls ++ later) .said ! length (taken ++ rest) ≤ 3
+          → UnderWayWithKindRead (received marks calls) × (leftAfter marks calls ≡ left (length (rest ++ (b ∷ []))))
+      accepted later before behind rest b e two e2 u one three =
+          let answer : received marks (calls ++ later) .said ! length (taken ++ rest) ≡ step (stateAfter (fresh marks) emptyGrid (taken ++ rest)) (gridAfter (fresh marks) emptyGrid (taken ++ rest)) b .answer =
+          ap (λ (t : List ℕ). t ! length (taken ++ rest)) (calls-stepped marks (calls ++ later) .said ∙ ap (answersOf (fresh marks) emptyGrid) (e2 ∙ sym (append-assoc taken rest (b ∷ []))))
+          ∙ answer-behind (taken ++ rest) b in
+          let read : stateAfter (fresh marks) emptyGrid (taken ++ rest) .kind ≢ 0 =
+          ends-text (stateAfter (fresh marks) emptyGrid (taken ++ rest)) (gridAfter (fresh marks) emptyGrid (taken ++ rest)) b (sound-possible (steps-sound (taken ++ rest) (fresh marks) emptyGrid (fresh-sound marks)))
+          (subst (λ n. 1 ≤ n) answer one) (subst (λ n. n ≤ 3) answer three) in
+          let place : 3 ≤ s .place = subst (λ (t : State). 3 ≤ t .place) (sym (x .state ∙ ap (stateAfter (fresh marks) emptyGrid) e))
+          (under-way before behind rest b two u (subst (λ t. stateAfter (fresh marks) emptyGrid (t ++ rest) .kind ≢ 0) e read)) in
+          let n = kind-by-place s possible place in
+          (((λ z. omega (arith, place, z)), n), exact n before behind (rest ++ (b ∷ [])) e u .0)
 
-    last : s .kind ≢ 0 → (leftAfter calls ≡ left 1) ↔ (isIn (number (ask s (received calls .grid) (byte TPAD) .reply)) (1 ∷ 2 ∷ 3 ∷ 22 ∷ []) ≡ true)
-    last n =
-        let due = last-due s (received calls .grid) possible n in
-        let told = byte-told calls TPAD in (
-          λ e. let one : restLength s ≡ 1 = left-inj (sym (left-read s possible n) ∙ e) in
-              ap (λ a. isIn a (1 ∷ 2 ∷ 3 ∷ 22 ∷ [])) told ∙ due .0 (omega (arith, one, rest-is s possible n)),
-          λ h. left-read s possible n ∙ ap left (omega (arith, due .1 (ap (λ a. isIn a (1 ∷ 2 ∷ 3 ∷ 22 ∷ [])) (sym told) ∙ h), rest-is s possible n)),
-        )
+      last : s .kind ≢ 0 → (leftAfter marks calls ≡ left 1) ↔ (isIn (number (ask s (received marks calls .grid) (byte TPAD) .reply)) (1 ∷ 2 ∷ 3 ∷ 22 ∷ []) ≡ true)
+      last n =
+          let due = last-due s (received marks calls .grid) possible n in
+          let told = byte-told calls TPAD in (
+            λ e. let one : restLength s ≡ 1 = left-inj (sym (left-read s possible n) ∙ e) in
+                ap (λ a. isIn a (1 ∷ 2 ∷ 3 ∷ 22 ∷ [])) told ∙ due .0 (omega (arith, one, rest-is s possible n)),
+            λ h. left-read s possible n ∙ ap left (omega (arith, due .1 (ap (λ a. isIn a (1 ∷ 2 ∷ 3 ∷ 22 ∷ [])) (sym told) ∙ h), rest-is s possible n)),
+          )

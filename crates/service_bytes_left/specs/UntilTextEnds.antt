@@ -12,9 +12,9 @@ use Rattle.text.specs.Part.{gridLength, UndamagedText}
 use Rattle.receiver_spec.specs.Calls.{number, Request, byte, Call, onGrid, elsewhere, ask, After, received}
 use Rattle.service_bytes_left.specs.BytesLeft.{LeftAnswer, left, bytesLeft}
 
--- The bytes left after a list of receiving calls. Request 106
-abbrev pub leftAfter : List Call → LeftAnswer
-leftAfter calls = bytesLeft (received calls .state)
+-- The bytes left after a list of receiving calls, whose receiver was asked for with this number. Requests 106 and 101
+abbrev pub leftAfter : ℕ → List Call → LeftAnswer
+leftAfter marks calls = bytesLeft (received marks calls .state)
 
 -- A text is under way, and its kind has been read. Request 106
 abbrev pub UnderWayWithKindRead : After → Type 0
@@ -38,39 +38,39 @@ pub record Falls (old new : LeftAnswer) (count answer : ℕ) : Type 0 where
   pub byBytes : answer ≤ 3 → (n : ℕ) × (old ≡ left (count + n)) × (new ≡ left n) × ((answer ≡ 0) ↔ (1 ≤ n))
   pub dropped : 11 ≤ answer → new ≡ left 0
 
--- What the number means after a list of calls. Request 106
-pub record UntilTextEnds (calls : List Call) : Type 0 where
+-- What the number means after a list of calls, whatever marks its receiver was asked for with. Requests 106 and 101
+pub record UntilTextEnds (marks : ℕ) (calls : List Call) : Type 0 where
   -- It is 0 between texts, and before the kind is read
-  pub between : received calls .state .place ≡ 0 → leftAfter calls ≡ left 0
-  pub unread : received calls .state .kind ≡ 0 → leftAfter calls ≡ left 0
+  pub between : received marks calls .state .place ≡ 0 → leftAfter marks calls ≡ left 0
+  pub unread : received marks calls .state .kind ≡ 0 → leftAfter marks calls ≡ left 0
   -- Once the kind is read: the text under way began with the last opening taken
-  pub started : UnderWayWithKindRead (received calls) → StartedBy (received calls)
+  pub started : UnderWayWithKindRead (received marks calls) → StartedBy (received marks calls)
   -- A number is told, and no refusal. Every undamaged text of that kind (byte 7 of a text, counted from 0), whatever its
   -- other bytes, has five control bytes, as many bytes more as the place, and then as many as the number says; so the
   -- number is this also where the bytes taken can no longer become an undamaged text
-  pub ofKind : UnderWayWithKindRead (received calls)
-      → (n : ℕ) × (leftAfter calls ≡ left n)
-      × ((text : List ℕ) → UndamagedText text → text ! 7 ≡ received calls .state .kind → length text ≡ 5 + (received calls .state .place + n))
+  pub ofKind : UnderWayWithKindRead (received marks calls)
+      → (n : ℕ) × (leftAfter marks calls ≡ left n)
+      × ((text : List ℕ) → UndamagedText text → text ! 7 ≡ received marks calls .state .kind → length text ≡ 5 + (received marks calls .state .place + n))
   -- Take any opening among the bytes taken. If it and all bytes taken behind it are the front of an undamaged text, the
   -- rest of that text has as many bytes as the number says, and that opening is the one which started the text under way
-  pub exact : UnderWayWithKindRead (received calls) → (before behind rest : List ℕ) → received calls .taken ≡ before ++ (opening ++ behind)
+  pub exact : UnderWayWithKindRead (received marks calls) → (before behind rest : List ℕ) → received marks calls .taken ≡ before ++ (opening ++ behind)
       → UndamagedText (opening ++ (behind ++ rest))
-      → (leftAfter calls ≡ left (length rest)) × (received calls .state .place ≡ suc (length behind))
+      → (leftAfter marks calls ≡ left (length rest)) × (received marks calls .state .place ≡ suc (length behind))
   -- An undamaged text that later calls bring to its end, its last byte answered 1, 2 or 3: after each call since its kind
   -- was taken it was under way, and the number was the count of bytes still to come. (Such a byte is the last that its
   -- call takes, so the bytes taken can end with it)
-  pub accepted : (later : List Call) (before behind most : List ℕ) (b : ℕ) → received calls .taken ≡ before ++ (opening ++ behind) → 2 ≤ length behind
-      → received (calls ++ later) .taken ≡ received calls .taken ++ (most ++ (b ∷ []))
+  pub accepted : (later : List Call) (before behind most : List ℕ) (b : ℕ) → received marks calls .taken ≡ before ++ (opening ++ behind) → 2 ≤ length behind
+      → received marks (calls ++ later) .taken ≡ received marks calls .taken ++ (most ++ (b ∷ []))
       → UndamagedText (opening ++ (behind ++ (most ++ (b ∷ []))))
-      → 1 ≤ received (calls ++ later) .said ! length (received calls .taken ++ most) → received (calls ++ later) .said ! length (received calls .taken ++ most) ≤ 3
-      → UnderWayWithKindRead (received calls) × (leftAfter calls ≡ left (length (most ++ (b ∷ []))))
+      → 1 ≤ received marks (calls ++ later) .said ! length (received marks calls .taken ++ most) → received marks (calls ++ later) .said ! length (received marks calls .taken ++ most) ≤ 3
+      → UnderWayWithKindRead (received marks calls) × (leftAfter marks calls ≡ left (length (most ++ (b ∷ []))))
   -- One call more: with each byte taken inside the text the number falls by one
-  pub falls : UnderWayWithKindRead (received calls) → (r : Request)
-      → let outcome = ask (received calls .state) (received calls .grid) r in
-      Falls (leftAfter calls) (leftAfter (calls ++ (onGrid r ∷ []))) (outcome .count) (number (outcome .reply))
+  pub falls : UnderWayWithKindRead (received marks calls) → (r : Request)
+      → let outcome = ask (received marks calls .state) (received marks calls .grid) r in
+      Falls (leftAfter marks calls) (leftAfter marks (calls ++ (onGrid r ∷ []))) (outcome .count) (number (outcome .reply))
   -- The number is 1 exactly where the `FF` is due: there, and there alone, an `FF` ends the text, answered 1, 2 or 3 or
   -- with row 22
-  pub last : UnderWayWithKindRead (received calls)
-      → (leftAfter calls ≡ left 1) ↔ (isIn (number (ask (received calls .state) (received calls .grid) (byte TPAD) .reply)) (1 ∷ 2 ∷ 3 ∷ 22 ∷ []) ≡ true)
+  pub last : UnderWayWithKindRead (received marks calls)
+      → (leftAfter marks calls ≡ left 1) ↔ (isIn (number (ask (received marks calls .state) (received marks calls .grid) (byte TPAD) .reply)) (1 ∷ 2 ∷ 3 ∷ 22 ∷ []) ≡ true)
   -- A call that is lent a grid of another length leaves the number as it was
-  pub kept : (r : Request) (grid : List ℕ) (other : length grid ≢ gridLength) → leftAfter (calls ++ (elsewhere r grid other ∷ [])) ≡ leftAfter calls
+  pub kept : (r : Request) (grid : List ℕ) (other : length grid ≢ gridLength) → leftAfter marks (calls ++ (elsewhere r grid other ∷ [])) ≡ leftAfter marks calls

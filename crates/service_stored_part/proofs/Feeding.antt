@@ -12,6 +12,7 @@ use Rattle.receiver_spec.specs.Receiver.{step}
 use Rattle.receiver_spec.specs.Calls.{CallOutcome, feed, sliceCall, ask, number, spread, answersOf, stateAfter, gridAfter}
 use Rattle.receiver_spec.specs.Demand3.{SliceTaken}
 use Rattle.general_laws.proofs.Tests.{by-if}
+use Rattle.receiver_spec.specs.Marks.{allMarks}
 use Rattle.receiver_spec.proofs.Laws.{PossibleOnGrid, fresh-sound, steps-sound, not-refused, slice-taken, answers-append, state-append, grid-append, answers-long, spread-last}
 use Rattle.receiver_state.specs.Meaning.{stateOf, numberOf}
 use Rattle.receiver_state.specs.declared.state.State.{State}
@@ -19,8 +20,9 @@ use Rattle.receiver_byte_call.specs.Returned.{returned, replyOf}
 use Rattle.receiver_byte_call.specs.declared.calls.CallResult.{CallResult}
 use Rattle.receiver_byte_call.proofs.Laws.{number-same}
 
+-- the fresh receiver with all twenty marks
 abbrev pub fresh : Rattle.receiver_spec.specs.State.State
-fresh = Rattle.receiver_spec.specs.State.fresh
+fresh = Rattle.receiver_spec.specs.State.fresh allMarks
 
 abbrev pub emptyGrid : List ℕ
 emptyGrid = Rattle.receiver_spec.specs.State.emptyGrid
@@ -56,7 +58,7 @@ begins bytes s g e f = record { inside = omega arith; state = e; grid = f; said 
 -- the grid keeps its length
 pub long : {bytes : List ℕ} {s : State} {g : List ℕ} {answer at : ℕ} → FedUpTo bytes s g answer at → length g ≡ length emptyGrid
 long {bytes} {at} h =
-    ap length (h .grid) ∙ steps-sound (take at bytes) fresh emptyGrid fresh-sound .long ∙ sym (fresh-sound .long)
+    ap length (h .grid) ∙ steps-sound (take at bytes) fresh emptyGrid (fresh-sound allMarks) .long ∙ sym (fresh-sound allMarks .long)
 
 -- one call more
 module _ {bytes : List ℕ} {s : State} {g : List ℕ} {answer at : ℕ} (h : FedUpTo bytes s g answer at) (l : at < length bytes)
@@ -71,7 +73,7 @@ module _ {bytes : List ℕ} {s : State} {g : List ℕ} {answer at : ℕ} (h : Fe
   e = called ∙ ap (sliceCall (stateOf s) g) (take-all (length bytes - at) rest (omega (arith, length-drop at bytes)))
 
   possible-on-grid : PossibleOnGrid (stateOf s) g
-  possible-on-grid = rw (h .state, h .grid) (steps-sound before fresh emptyGrid fresh-sound)
+  possible-on-grid = rw (h .state, h .grid) (steps-sound before fresh emptyGrid (fresh-sound allMarks))
 
   taken : SliceTaken (stateOf s) g rest (returned result left)
   taken = rw e (call-taken (stateOf s) g rest possible-on-grid)

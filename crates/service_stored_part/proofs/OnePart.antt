@@ -21,10 +21,11 @@ use Rattle.text_laws.proofs.Blocks.{StartRules, start-rules, EndRules, end-rule
 use Rattle.text_laws.proofs.KindTable.{kind-part, text-back, start-is-kind, end-is-kind}
 use Rattle.text_laws.proofs.Parts.{part-length}
 use Rattle.text_laws.proofs.Deciding.{part-decided}
+use Rattle.receiver_spec.specs.Marks.{allMarks}
 use Rattle.receiver_spec.specs.State.{State, fresh, emptyGrid}
 use Rattle.receiver_spec.specs.Calls.{byte, onGrid, singly, answersOf, stateAfter, Call}
 use Rattle.receiver_spec.specs.Demand3.{EndsUndamaged}
-use Rattle.receiver_spec.proofs.Laws.{calls-stepped, singly-taken, demand-3, held-then}
+use Rattle.receiver_spec.proofs.Laws.{calls-stepped, singly-taken, demand-3, held-then, every-marked}
 
 -- ---- a part
 
@@ -67,15 +68,15 @@ kind-in-text block l = List·getD-append block (controlB block) 0 2 (omega arith
 
 -- ---- bytes that end with a part
 
-state-behind : (bytes : List ℕ) → singly bytes .state ≡ stateAfter fresh emptyGrid bytes
-state-behind bytes = calls-stepped (map (λ b. onGrid (byte b)) bytes) .state ∙ ap (stateAfter fresh emptyGrid) (singly-taken bytes)
+state-behind : (bytes : List ℕ) → singly allMarks bytes .state ≡ stateAfter (fresh allMarks) emptyGrid bytes
+state-behind bytes = calls-stepped allMarks (map (λ b. onGrid (byte b)) bytes) .state ∙ ap (stateAfter (fresh allMarks) emptyGrid) (singly-taken allMarks bytes)
 
-said-behind : (bytes : List ℕ) → singly bytes .said ≡ answersOf fresh emptyGrid bytes
-said-behind bytes = calls-stepped (map (λ b. onGrid (byte b)) bytes) .said ∙ ap (answersOf fresh emptyGrid) (singly-taken bytes)
+said-behind : (bytes : List ℕ) → singly allMarks bytes .said ≡ answersOf (fresh allMarks) emptyGrid bytes
+said-behind bytes = calls-stepped allMarks (map (λ b. onGrid (byte b)) bytes) .said ∙ ap (answersOf (fresh allMarks) emptyGrid) (singly-taken allMarks bytes)
 
 -- the length that header and end text tell
 abbrev pub expectedLength : List ℕ → ℕ
-expectedLength bytes = partLength (partOf (bytes ! (length bytes - 33))) (stateAfter fresh emptyGrid bytes .header .noecho)
+expectedLength bytes = partLength (partOf (bytes ! (length bytes - 33))) (stateAfter (fresh allMarks) emptyGrid bytes .header .noecho)
 
 expected-length-right : (before part bytes : List ℕ) → UndamagedPart part → bytes ≡ before ++ part → expectedLength bytes ≡ length part
 unfolding partBytes headerOf
@@ -96,17 +97,17 @@ expected-length-right before part bytes u e = ap₂ partLength kind noecho ∙ s
     ones : List Call
     ones = map (λ b. onGrid (byte b)) bytes
 
-    header : stateAfter fresh emptyGrid bytes .header ≡ headerOf (u .part .start)
-    header = ap (λ (s : State). s .header) (sym (state-behind bytes)) ∙ held-then ones before part u (singly-taken bytes ∙ e) .0
+    header : stateAfter (fresh allMarks) emptyGrid bytes .header ≡ headerOf (u .part .start)
+    header = ap (λ (s : State). s .header) (sym (state-behind bytes)) ∙ held-then allMarks ones before part u (every-marked u) (singly-taken allMarks bytes ∙ e) .0
 
-    noecho : stateAfter fresh emptyGrid bytes .header .noecho ≡ noEchoOf (u .part .start ! 4)
+    noecho : stateAfter (fresh allMarks) emptyGrid bytes .header .noecho ≡ noEchoOf (u .part .start ! 4)
     noecho = ap (λ (h : Header). h .noecho) header
 
 -- the last byte is answered 3 where the bytes end with a part
-last-3 : (bytes : List ℕ) → 1 ≤ length bytes → (answersOf fresh emptyGrid bytes ! (length bytes - 1) ≡ 3) ↔ EndsUndamaged bytes
+last-3 : (bytes : List ℕ) → 1 ≤ length bytes → (answersOf (fresh allMarks) emptyGrid bytes ! (length bytes - 1) ≡ 3) ↔ EndsUndamaged allMarks bytes
 last-3 bytes l = (
-  λ h. subst EndsUndamaged (sym split) (complete .0 (said ∙ h)),
-  λ u. sym said ∙ complete .1 (subst EndsUndamaged split u),
+  λ h. subst (EndsUndamaged allMarks) (sym split) (complete .0 (said ∙ h)),
+  λ u. sym said ∙ complete .1 (subst (EndsUndamaged allMarks) split u),
 )
   where
     front : List ℕ
@@ -120,10 +121,10 @@ last-3 bytes l = (
         split-at bytes (length bytes - 1) 0 (omega arith)
         ∙ ap (λ t. take (length bytes - 1) bytes ++ (bytes ! (length bytes - 1) ∷ t)) (drop-of-length-le bytes {i = suc (length bytes - 1)} (omega arith))
 
-    complete : (singly bytes .said ! length front ≡ 3) ↔ EndsUndamaged (front ++ (last ∷ []))
-    complete = demand-3 (map (λ b. onGrid (byte b)) bytes) .complete front last [] (singly-taken bytes ∙ split)
+    complete : (singly allMarks bytes .said ! length front ≡ 3) ↔ EndsUndamaged allMarks (front ++ (last ∷ []))
+    complete = demand-3 allMarks (map (λ b. onGrid (byte b)) bytes) .complete front last [] (singly-taken allMarks bytes ∙ split)
 
-    said : singly bytes .said ! length front ≡ answersOf fresh emptyGrid bytes ! (length bytes - 1)
+    said : singly allMarks bytes .said ! length front ≡ answersOf (fresh allMarks) emptyGrid bytes ! (length bytes - 1)
     said = ap₂ (λ (t : List ℕ) i. t ! i) (said-behind bytes) (length-take-le (length bytes - 1) bytes (omega arith))
 
 no-front : (before part : List ℕ) → length (before ++ part) ≡ length part → before ++ part ≡ part
@@ -133,7 +134,7 @@ no-front (x ∷ before) part e = absurd (omega (arith, length-append before part
 -- ---- the decision
 
 pub decided : (bytes : List ℕ) → 80 ≤ length bytes
-    → (eqb (answersOf fresh emptyGrid bytes ! (length bytes - 1)) 3 && eqb (length bytes) (expectedLength bytes)) ≡ isUndamagedPart bytes
+    → (eqb (answersOf (fresh allMarks) emptyGrid bytes ! (length bytes - 1)) 3 && eqb (length bytes) (expectedLength bytes)) ≡ isUndamagedPart bytes
 decided bytes l =
     by-test (isUndamagedPart bytes) (λ h. whole (part-decided bytes .0 h) ∙ sym h) (λ h. by-test test (λ t. never h (part-decided bytes .1 (found t))) (λ t. t ∙ sym h))
   where
@@ -141,11 +142,11 @@ decided bytes l =
     some = omega arith
 
     test : Bool
-    test = eqb (answersOf fresh emptyGrid bytes ! (length bytes - 1)) 3 && eqb (length bytes) (expectedLength bytes)
+    test = eqb (answersOf (fresh allMarks) emptyGrid bytes ! (length bytes - 1)) 3 && eqb (length bytes) (expectedLength bytes)
 
     whole : UndamagedPart bytes → test ≡ true
     whole u =
-        and-join (eq-eqb _ _ (last-3 bytes some .1 (record { before = []; part = bytes; split = refl; whole = u })))
+        and-join (eq-eqb _ _ (last-3 bytes some .1 (record { before = []; part = bytes; split = refl; whole = u; marked = every-marked u })))
         (eq-eqb _ _ (sym (expected-length-right [] bytes bytes u refl)))
 
     found : test ≡ true → UndamagedPart bytes

@@ -1,4 +1,5 @@
 // Whether bytes are exactly one undamaged part: a fresh receiver takes them and says so.
+use receiver_marks::marks::all_marks;
 use receiver_slice_call::calls::slice_call;
 use receiver_state::answer::number_of;
 use receiver_state::state::State;
@@ -10,6 +11,7 @@ ghost use Prim.Native.Nat.{_-_};
 ghost use lib.ListN.{length};
 ghost use Rattle.general_laws.specs.Bytes.{_!_};
 ghost use Rattle.text.specs.Part.{isUndamagedPart};
+ghost use Rattle.receiver_spec.specs.Marks.{allMarks};
 ghost use Rattle.receiver_spec.specs.State;
 ghost use Rattle.receiver_spec.specs.State.{emptyGrid};
 ghost use Rattle.receiver_spec.specs.Calls.{answersOf, stateAfter};
@@ -21,13 +23,20 @@ struct FeedResult {
     answer: u8,
 }
 
-// Gives all bytes to a fresh receiver
+// A fresh receiver with all twenty marks (Request 101): a stored part of any picture is looked at
+fn fresh_for_all() -> State
+    ensures { λ r. ⌜ stateOf r ≡ Rattle.receiver_spec.specs.State.fresh allMarks ⌝ }
+{
+    fresh(all_marks())
+}
+
+// Gives all bytes to such a receiver
 fn feed_all(grid: &mut [u8], bytes: &[u8]) -> FeedResult
     requires { ⌜ now grid ≡ emptyGrid ⌝ }
-    ensures { λ r. ⌜ stateOf (r .state) ≡ stateAfter Rattle.receiver_spec.specs.State.fresh emptyGrid (now (bytes .entry)) ⌝ }
-    ensures { λ r. ⌜ r .answer ≡ answersOf Rattle.receiver_spec.specs.State.fresh emptyGrid (now (bytes .entry)) ! (length (now (bytes .entry)) - 1) ⌝ }
+    ensures { λ r. ⌜ stateOf (r .state) ≡ stateAfter (Rattle.receiver_spec.specs.State.fresh allMarks) emptyGrid (now (bytes .entry)) ⌝ }
+    ensures { λ r. ⌜ r .answer ≡ answersOf (Rattle.receiver_spec.specs.State.fresh allMarks) emptyGrid (now (bytes .entry)) ! (length (now (bytes .entry)) - 1) ⌝ }
 {
-    let mut s = fresh();
+    let mut s = fresh_for_all();
     let mut answer = 0;
     let mut at = 0;
     while at < bytes.len() {

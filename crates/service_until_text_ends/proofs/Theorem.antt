@@ -11,8 +11,8 @@ use Rattle.service_bytes_left.specs.declared.left.BytesLeftResult.{BytesLeftRes
 use Rattle.service_bytes_left.proofs.Laws.{until-text-ends}
 use Rattle.service_until_text_ends.specs.CodeLeft.{EnsuredLeft, CodeUntilTextEnds}
 
-pub code-until-text-ends : {calls : List Call} {s : State} {g taken said : List ℕ} {made : List CallOutcome} → Called calls s g taken said made
-    → (r : BytesLeftResult) → EnsuredLeft s r → CodeUntilTextEnds calls taken said r
-code-until-text-ends {calls} c r e =
-    let d = code-demand-3 c in
-    record { answer = e ∙ ap bytesLeft (d .state); bytes = d .bytes; answers = d .answers; meaning = until-text-ends calls }
+pub code-until-text-ends : (marks : ℕ) {calls : List Call} {s : State} {g taken said : List ℕ} {made : List CallOutcome} → Called marks calls s g taken said made
+    → (r : BytesLeftResult) → EnsuredLeft s r → CodeUntilTextEnds marks calls taken said r
+code-until-text-ends marks {calls} c r e =
+    let d = code-demand-3 marks c in
+    record { answer = e ∙ ap bytesLeft (d .state); bytes = d .bytes; answers = d .answers; meaning = until-text-ends marks calls }

@@ -19,8 +19,8 @@ EnsuredLeft s r = answerOf r ≡ bytesLeft (stateOf s)
 -- After a caller's list of calls, which took these bytes with these answers, bytes_left returned r: it is the
 -- definition's number after the same calls; these took the same bytes with the same answers; and the number means what
 -- UntilTextEnds says. Request 106
-pub record CodeUntilTextEnds (calls : List Call) (taken said : List ℕ) (r : BytesLeftResult) : Type 0 where
-  pub answer : answerOf r ≡ leftAfter calls
-  pub bytes : taken ≡ received calls .taken
-  pub answers : said ≡ received calls .said
-  pub meaning : UntilTextEnds calls
+pub record CodeUntilTextEnds (marks : ℕ) (calls : List Call) (taken said : List ℕ) (r : BytesLeftResult) : Type 0 where
+  pub answer : answerOf r ≡ leftAfter marks calls
+  pub bytes : taken ≡ received marks calls .taken
+  pub answers : said ≡ received marks calls .said
+  pub meaning : UntilTextEnds marks calls

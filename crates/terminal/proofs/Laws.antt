@@ -2,3 +2,5 @@
 
 -- A slice call's count is at most the slice's length; and, for a slice from a place on, at most what is left from there
 pub use Rattle.receiver_slice_call.proofs.Laws.{count-most, count-behind}
+-- What marks come to, and that the mark of a listed picture marks that picture alone (Request 101)
+pub use Rattle.receiver_marks.proofs.Laws.{marks-claim, mark-alone}

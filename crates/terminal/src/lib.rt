@@ -2,16 +2,20 @@
 // code of its own. Every function answers for every value of its parameters (01, demand 1); its
 // contract, an equation with a definition, stands where it is declared.
 
-// The receiver (01, "The receiver"): the state and the fresh one, a grid all 0, the byte call and the
-// slice call with what they return, and 01's numbers of answers
+// The receiver (01, "The receiver"): the state and the fresh one, its marks (Request 101), a grid all
+// 0, the byte call and the slice call with what they return, and 01's numbers of answers
 pub use receiver_byte_call::calls::CallResult;
 pub use receiver_byte_call::calls::byte_call;
+pub use receiver_marks::marks::all_marks;
+pub use receiver_marks::marks::is_marked;
+pub use receiver_marks::marks::mark_of;
 pub use receiver_slice_call::calls::slice_call;
 pub use receiver_state::answer::Answer;
 pub use receiver_state::answer::number_of;
 pub use receiver_state::grid::clear;
 pub use receiver_state::state::Frame;
 pub use receiver_state::state::State;
+pub use receiver_state::state::count_marks;
 pub use receiver_state::state::fresh;
 
 // Headers: a part's, and what the writer takes of one

@@ -2,20 +2,20 @@
 use mathlib.Core.Path.{_≡_, refl, sym, ap, ap₂, _∙_, subst}
 use mathlib.Core.Bool.{Bool, true, _&&_}
 use mathlib.Core.List.{List, [], _∷_, _++_, append-assoc, append-nil, map}
-use Prim.Native.Nat.{ℕ, suc, _+_, _*_, _-_, _≤_, _<_}
+use Prim.Native.Nat.{ℕ, zero, suc, _+_, _*_, _-_, _≤_, _<_}
 use native.Mathlib.Nat.{suc-mul, zero-mul}
 use native.Mathlib.Omega.{arith}
 use lib.Dec.{eqb, lit≤}
 use lib.ListN.{length, take, drop, replicate, length-append, length-drop, length-replicate, List·getD-append}
 use lib.Seq.{take-at, drop-at, drop-drop, take-take, getD-take, getD-drop, getD-append-add}
 use borrow.Author.Tests.{eqb-true}
-use Rattle.general_laws.specs.Bytes.{_!_}
+use Rattle.general_laws.specs.Bytes.{_!_, every}
 use Rattle.text.specs.Text.{controlB, textOf}
 use Rattle.text.specs.Kinds.{isKind, partOf, kindOf, dataBlockLength, blockLength, textLength, dataTexts, partLength}
 use Rattle.text.specs.StartBlock.{noEchoOf, radarsOf}
 use Rattle.text.specs.DataBlock.{payloadOf, isDataBlock}
 use Rattle.text.specs.Part.{Block, startBlock, dataBlock, endBlock, UndamagedText, Part, textsOf, partBytes, isTextOf, inOrder, startPart, dataTextsAfter, isPart, UndamagedPart, gridLength, payloadsOf, zeros, gridOf, cutBlocks, cutPart}
-use Rattle.general_laws.proofs.Tests.{by-test, and-split}
+use Rattle.general_laws.proofs.Tests.{by-test, and-split, and-join}
 use Rattle.text_laws.proofs.Framing.{text-length}
 use Rattle.text_laws.proofs.Blocks.{start-rules, data-rules, end-rules, PartRules, part-rules}
 use Rattle.text_laws.proofs.KindTable.{kind-part, text-back, data-is-kind, start-is-kind, data-block-length, block-least, start-block-length, end-block-length}
@@ -256,6 +256,11 @@ grid-length p h =
 pub zeros-long : (n : ℕ) → length (zeros n) ≡ n
 unfolding zeros
 zeros-long n = length-replicate {A = ℕ} n 0
+
+pub every-zeros : (test : ℕ → Bool) (n : ℕ) → test 0 ≡ true → every test (zeros n) ≡ true
+unfolding every zeros
+every-zeros test zero h = refl
+every-zeros test (suc n) h = and-join h (every-zeros test n h)
 
 -- Where a data text's payload byte stands in the grid: behind the payloads of the data texts before it
 payload-place : {n : ℕ} (earlier : List (List ℕ)) (block : List ℕ) (later : List (List ℕ)) (behind : List ℕ) → Sized n (earlier ++ (block ∷ later))

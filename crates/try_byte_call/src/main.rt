@@ -4,6 +4,7 @@
 use libc::STDIN_FILENO;
 use libc::STDOUT_FILENO;
 use receiver_byte_call::calls::byte_call;
+use receiver_marks::marks::all_marks;
 use receiver_state::answer::number_of;
 use receiver_state::state::State;
 use receiver_state::state::fresh;
@@ -77,7 +78,7 @@ fn feed_all(grid: &mut [u8], buffer: &mut [u8], counts: &mut [u64])
     requires { ⌜ 23 ≤ length (now counts) ⌝ }
 {
     let mut fed = FeedResult {
-        state: fresh(),
+        state: fresh(all_marks()),
         goes_on: true,
     };
     let mut turns = u64::MAX;

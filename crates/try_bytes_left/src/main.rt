@@ -18,6 +18,7 @@ use crate::lines::answer_line;
 use crate::lines::last_line;
 use libc::STDIN_FILENO;
 use receiver_byte_call::calls::byte_call;
+use receiver_marks::marks::all_marks;
 use receiver_state::answer::number_of;
 use receiver_state::state::State;
 use receiver_state::state::fresh;
@@ -29,7 +30,7 @@ struct Fed {
 }
 
 fn at_start() -> Fed {
-    let state = fresh();
+    let state = fresh(all_marks());
     Fed {
         state,
         figures: before_any(state),

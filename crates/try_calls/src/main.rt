@@ -1,7 +1,7 @@
 // Shows what the receiving calls return and leave. Standard input has records: a length of two
 // bytes, high byte first, and so many bytes, a part or one with an altered byte. Each record is
 // given in two slices, cut at each place of its second text's opening, and then byte by byte. State
-// and grid go on from run to run, from fresh on. After the records come calls that are refused.
+// and grid go on from run to run, from fresh with all twenty marks on. After the records come calls that are refused.
 // What must be printed, the file stdout, is made by tests/try_calls.py from the model of 01.
 //
 // Lines are words and decimal numbers. CONTENTS is the header (12 digits of the time, 8 radars,
@@ -12,7 +12,7 @@
 //   byte TAKEN ANSWER       from the byte call; TAKEN counts the record's bytes taken so far
 //   held CONTENTS           after answer 3
 //   dropped CONTENTS        after an answer above 10
-//   refused CALL NUMBER COUNT SEEN PLACE KIND PICTURE PART DUE CHECK SEEN-COUNT CONTENTS
+//   refused CALL NUMBER COUNT SEEN PLACE KIND PICTURE PART DUE CHECK SEEN-COUNT MARKS CONTENTS
 // Of the last, CALL is 1 for the byte call and 2 for the slice call; what follows COUNT is the state
 // returned and the grid left. Where a call is not refused, the line begins with `answered`.
 mod held;
@@ -23,6 +23,7 @@ mod runs;
 ghost use Prim.Native.Nat.{_+_, _≤_};
 ghost use lib.ListN.{length};
 use libc::STDIN_FILENO;
+use receiver_marks::marks::all_marks;
 use receiver_state::state::State;
 use receiver_state::state::fresh;
 
@@ -52,7 +53,7 @@ fn part(state: State, grid: &mut [u8], record: &[u8]) -> State {
 }
 
 fn parts(grid: &mut [u8], input: &[u8]) -> State {
-    let mut s = fresh();
+    let mut s = fresh(all_marks());
     let mut at = 0;
     while at + 2 <= input.len() {
         let start = at + 2;
@@ -69,6 +70,7 @@ fn main() {
     let mut grid = [0u8; 20000];
     let last = parts(&mut grid, &buffer[..n]);
     refusals::states(last, &mut grid);
+    refusals::marks(last, &mut grid);
     let mut others = [7u8; 20001];
     refusals::lengths(last, &mut others);
 }

@@ -1,4 +1,5 @@
-// Calls that must be refused: a grid of another length (1), a state that is not possible (2).
+// Calls that must be refused: a grid of another length (1), a state that is not possible (2); and two
+// that must not be, with all marks and with none.
 use crate::held::numbers;
 use crate::print::byte;
 use crate::print::number;
@@ -33,6 +34,12 @@ const STATES: [[u8; 7]; 12] = [
     [3, 0x2F, 0xCC, 2, 1, 0, 5],
 ];
 
+// All twenty marks
+const ALL: u32 = 1048575;
+
+// All twenty marks and none; the mark beyond the twentieth, and every bit
+const MARKS: [u32; 4] = [ALL, 0, 1048576, 4294967295];
+
 fn answer_word(answer: Answer) {
     match answer {
         Answer::Refused(_) => word(b"refused"),
@@ -60,12 +67,13 @@ fn line(call: u8, result: CallResult, grid: &[u8]) {
     number(result.count as u64);
     number(s.seen);
     frame_numbers(f);
+    number(s.marks as u64);
     numbers(s, grid);
 }
 
-// Both calls, lent `n` bytes of `space`, in a state with the header and modes of `held` and the
-// control bytes as the last bytes seen
-fn both(held: State, space: &mut [u8], n: usize, f: [u8; 7]) {
+// Both calls, lent `n` bytes of `space`, in a state with the header and modes of `held`, these marks,
+// and the control bytes as the last bytes seen. The byte would end an opening
+fn both(held: State, space: &mut [u8], n: usize, f: [u8; 7], marks: u32) {
     if space.len() < n {
         return;
     }
@@ -84,11 +92,12 @@ fn both(held: State, space: &mut [u8], n: usize, f: [u8; 7]) {
         },
         header,
         modes,
+        marks,
     };
     let grid = &mut space[..n];
-    let one = byte_call(s, grid, 0x16);
+    let one = byte_call(s, grid, 0xFD);
     line(1, one, grid);
-    let some = slice_call(s, grid, b"\x16\x16");
+    let some = slice_call(s, grid, b"\xFD");
     line(2, some, grid);
 }
 
@@ -96,7 +105,17 @@ fn both(held: State, space: &mut [u8], n: usize, f: [u8; 7]) {
 pub fn states(held: State, grid: &mut [u8]) {
     let mut i = 0;
     while i < 12 {
-        both(held, grid, 20000, STATES[i]);
+        both(held, grid, 20000, STATES[i], ALL);
+        i += 1;
+    }
+}
+
+// A possible state with all twenty marks, with none, with the mark beyond them alone and with every
+// bit set (Request 101): the last two are refused
+pub fn marks(held: State, grid: &mut [u8]) {
+    let mut i = 0;
+    while i < 4 {
+        both(held, grid, 20000, [0, 0, 0, 0, 0, 0, 5], MARKS[i]);
         i += 1;
     }
 }
@@ -106,8 +125,8 @@ pub fn lengths(held: State, space: &mut [u8]) {
     let mut i = 0;
     while i < 3 {
         let n = LENGTHS[i];
-        both(held, space, n, [0, 0, 0, 0, 0, 0, 5]);
-        both(held, space, n, [0, 0, 0, 0, 0, 0, 6]);
+        both(held, space, n, [0, 0, 0, 0, 0, 0, 5], ALL);
+        both(held, space, n, [0, 0, 0, 0, 0, 0, 6], ALL);
         i += 1;
     }
 }

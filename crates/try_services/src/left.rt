@@ -6,6 +6,7 @@ use crate::print::refused;
 use crate::print::word;
 use crate::sums::about_part;
 use receiver_byte_call::calls::byte_call;
+use receiver_marks::marks::all_marks;
 use receiver_state::answer::number_of;
 use receiver_state::state::State;
 use receiver_state::state::fresh;
@@ -61,7 +62,7 @@ fn after(taken: usize, answer: u8, s: State) {
 }
 
 fn feed_part(grid: &mut [u8], bytes: &[u8]) {
-    let mut s = fresh();
+    let mut s = fresh(all_marks());
     let mut i = 0;
     while i < bytes.len() {
         let result = byte_call(s, grid, bytes[i]);
@@ -83,7 +84,7 @@ fn of_part(part: u8) {
 }
 
 pub fn lines() {
-    line(0, 0, fresh());
+    line(0, 0, fresh(all_marks()));
     of_part(1);
     of_part(2);
     of_part(3);

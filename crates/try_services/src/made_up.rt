@@ -1,10 +1,12 @@
-// Bytes left in states that are made up, possible and not.
+// Bytes left, and how many marks are set, in states that are made up, possible and not.
 use crate::left::end_with;
 use crate::print::byte;
 use crate::print::number;
 use crate::print::word;
+use receiver_marks::marks::all_marks;
 use receiver_state::state::Frame;
 use receiver_state::state::State;
+use receiver_state::state::count_marks;
 use receiver_state::state::fresh;
 use service_bytes_left::left::bytes_left;
 
@@ -18,9 +20,9 @@ fn frame_numbers(f: Frame) {
     byte(f.count);
 }
 
-// Place; kind, picture code, part, due text, check byte and count of the bytes seen
-fn line(place: u16, f: [u8; 6]) {
-    let held = fresh();
+// Place; kind, picture code, part, due text, check byte and count of the bytes seen; marks
+fn line_with(place: u16, f: [u8; 6], marks: u32) {
+    let held = fresh(0);
     let header = held.header;
     let modes = held.modes;
     let frame = Frame {
@@ -39,8 +41,17 @@ fn line(place: u16, f: [u8; 6]) {
         frame,
         header,
         modes,
+        marks,
     };
+    number(marks as u64);
+    word(b" set");
+    number(count_marks(s) as u64);
     end_with(bytes_left(s));
+}
+
+// With all twenty marks
+fn line(place: u16, f: [u8; 6]) {
+    line_with(place, f, all_marks());
 }
 
 // The longest text: its first place with the kind read, within, and its last
@@ -78,12 +89,21 @@ fn between_texts() {
     line(0, [0, 0, 0, 0, 0, 5]);
 }
 
+// No mark; that of the text under way alone; that of another picture alone; every other mark
+fn marked() {
+    line_with(0, [0, 0, 0, 0, 0, 5], 0);
+    line_with(17, [0x10, 0xCC, 0, 0, 0, 5], 128);
+    line_with(17, [0x10, 0xCC, 0, 0, 0, 5], 1);
+    line_with(0, [0, 0, 0, 0, 0, 5], 699050);
+}
+
 fn possible() {
     longest();
     without_kind();
     start_and_end();
     other_data();
     between_texts();
+    marked();
 }
 
 // Past a text's last place, place 3 with no kind, a picture code at place 0, a data kind with no
@@ -102,7 +122,16 @@ fn impossible() {
     line(406, [0x21, 0xCC, 2, 1, 0, 5]);
 }
 
+// A mark beyond the twentieth: alone, with the first, the highest bit, and every bit (Request 101)
+fn beyond() {
+    line_with(0, [0, 0, 0, 0, 0, 5], 1048576);
+    line_with(0, [0, 0, 0, 0, 0, 5], 1048577);
+    line_with(0, [0, 0, 0, 0, 0, 5], 2147483648);
+    line_with(0, [0, 0, 0, 0, 0, 5], 4294967295);
+}
+
 pub fn lines() {
     possible();
     impossible();
+    beyond();
 }

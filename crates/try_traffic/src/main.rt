@@ -15,6 +15,7 @@ mod runs;
 
 use crate::runs::FeedResult;
 use libc::STDIN_FILENO;
+use receiver_marks::marks::all_marks;
 use receiver_state::state::fresh;
 
 // Reads once, as much as there is, and gives it to the receiver
@@ -48,8 +49,8 @@ fn main() {
     let mut buffer = io::large_buffer();
     let mut out = io::large_buffer();
     let mut fed = FeedResult {
-        sliced: fresh(),
-        single: fresh(),
+        sliced: fresh(all_marks()),
+        single: fresh(all_marks()),
         total: 0,
         goes_on: true,
     };

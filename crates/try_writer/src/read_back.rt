@@ -4,6 +4,7 @@ use crate::print::byte;
 use crate::print::end_line;
 use crate::print::number;
 use crate::print::word;
+use receiver_marks::marks::all_marks;
 use receiver_slice_call::calls::slice_call;
 use receiver_state::answer::number_of;
 use receiver_state::state::State;
@@ -23,7 +24,7 @@ fn took(count: usize, answer: u8, s: State, grid: &[u8]) {
 // Gives all bytes, by as many calls as that takes
 pub fn read_back(bytes: &[u8]) {
     let mut grid = [0u8; 20000];
-    let mut s = fresh();
+    let mut s = fresh(all_marks());
     let mut at = 0;
     while at < bytes.len() {
         let result = slice_call(s, &mut grid, &bytes[at..]);

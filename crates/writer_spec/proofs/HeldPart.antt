@@ -16,10 +16,10 @@ use Rattle.text.specs.DataBlock.{isIntensityByte, isTopByte, isQualityByte, odd
 use Rattle.text.specs.EndBlock.{radarPlaces, isModeByte, modesOf}
 use Rattle.text.specs.Part.{Part, inOrder, isPart, gridLength, payloadsOf, zeros, gridOf, partHeader, partModes}
 use Rattle.text.specs.WriterInput.{writerHeaderOf, isModeFor, areModesFor, isWriterHeader, isWriterInput}
-use Rattle.general_laws.proofs.Tests.{by-test, never, and-split, and-join, every-in}
+use Rattle.general_laws.proofs.Tests.{by-test, never, and-join, every-in, every-append}
 use Rattle.text_laws.proofs.KindTable.{kind-part, text-back, data-is-kind, start-is-kind, by-part, most-texts}
 use Rattle.text_laws.proofs.Blocks.{StartRules, start-rules, data-rules, EndRules, end-rules, PartRules, part-rules}
-use Rattle.text_laws.proofs.Parts.{data-sized, order-split, payloads-length, payload-fits, grid-length}
+use Rattle.text_laws.proofs.Parts.{data-sized, order-split, payloads-length, payload-fits, grid-length, every-zeros}
 use Rattle.writer_spec.specs.Written.{isPayload}
 use Rattle.writer_spec.specs.Demand2.{Accepted, heldPart, heldPayload}
 use Rattle.writer_spec.proofs.WrittenAgain.{time-kept}
@@ -31,18 +31,6 @@ unfolding zeros
 take-zeros zero m h = refl
 take-zeros (suc n) zero h = absurd (omega arith)
 take-zeros (suc n) (suc m) h = ap (λ t. 0 ∷ t) (take-zeros n m (omega arith))
-
-pub every-zeros : (test : ℕ → Bool) (n : ℕ) → test 0 ≡ true → every test (zeros n) ≡ true
-unfolding every zeros
-every-zeros test zero h = refl
-every-zeros test (suc n) h = and-join h (every-zeros test n h)
-
-every-append : (test : ℕ → Bool) (xs ys : List ℕ) → every test xs ≡ true → every test ys ≡ true → every test (xs ++ ys) ≡ true
-unfolding every
-every-append test [] ys h g = g
-every-append test (x ∷ xs) ys h g =
-    let (a, b) = and-split (test x) (every test xs) h in
-    and-join a (every-append test xs ys b g)
 
 -- 00 is a payload byte of every part
 zero-allowed : (p : ℕ) → isPartNumber p ≡ true → isPayloadByte p 0 ≡ true

@@ -22,8 +22,10 @@ use Rattle.general_laws.proofs.Tests.{by-test, and-split}
 use Rattle.text_laws.proofs.KindTable.{most-texts, no-texts}
 use Rattle.text_laws.proofs.Blocks.{part-keeps}
 use Rattle.text_laws.proofs.Parts.{part-length, payload-fits}
+use Rattle.receiver_spec.specs.Marks.{isMarked, marksFrom}
 use Rattle.receiver_spec.specs.Calls.{Call, onGrid, byte, received, singly}
-use Rattle.receiver_spec.proofs.Laws.{singly-taken, demand-3, held-then, not-before}
+use Rattle.receiver_spec.specs.Demand3.{Marked}
+use Rattle.receiver_spec.proofs.Laws.{singly-taken, demand-3, held-then, never-before}
 use Rattle.writer_spec.specs.Written.{writesNoEcho, blockOf, startContents, endContents, dataBlocks, writtenPart, isPayload, WriteOutcome, bytesWritten, writes}
 use Rattle.writer_spec.specs.Demand2.{Accepted, written, writtenHeader, ReadsBack}
 use Rattle.writer_spec.proofs.RulesKept.{OneToThree, one, two, three, part-is, kind-edges, picture, top-mode, mode-back, start-kept, start-header, status-back, end-kept, end-modes}
@@ -175,24 +177,29 @@ module _ (p : ℕ) (h : WriterHeader) (modes payload : List ℕ) (t : Accepted p
           ∙ no-blocks p (h .picture) payload
           ∙ sym (all-zeros payload (omega (arith, sized, payload-fits p false)) allZeroData)
 
-  pub anywhere : (calls : List Call) (others : List ℕ) → received calls .taken ≡ others ++ written p h modes payload
-      → (received calls .said ! (length others + (length (written p h modes payload) - 1)) ≡ 3)
-      × (received calls .state .header ≡ writtenHeader p h modes payload)
-      × (received calls .state .modes ≡ modes)
-      × (received calls .grid ≡ payload ++ zeros (gridLength - length payload))
+  -- the picture is the header's
+  marked : (n : ℕ) → isMarked (marksFrom n) (h .picture) ≡ true → Marked n (undamaged .part .start)
+  unfolding undamaged headerOf
+  marked n hm = subst (λ q. isMarked (marksFrom n) q ≡ true) (sym (ap (λ (x : Header). x .picture) header-is)) hm
+
+  pub anywhere : (n : ℕ) → isMarked (marksFrom n) (h .picture) ≡ true → (calls : List Call) (others : List ℕ) → received n calls .taken ≡ others ++ written p h modes payload
+      → (received n calls .said ! (length others + (length (written p h modes payload) - 1)) ≡ 3)
+      × (received n calls .state .header ≡ writtenHeader p h modes payload)
+      × (received n calls .state .modes ≡ modes)
+      × (received n calls .grid ≡ payload ++ zeros (gridLength - length payload))
   unfolding undamaged
-  anywhere calls others taken =
+  anywhere n hm calls others taken =
       let bytes = written p h modes payload in
-      let d = demand-3 calls in
-      let (held-header, held-modes, held-grid) = held-then calls others bytes undamaged taken in
+      let d = demand-3 n calls in
+      let (held-header, held-modes, held-grid) = held-then n calls others bytes undamaged (marked n hm) taken in
       let front = take (length bytes - 1) bytes in
       let z = getD bytes (length bytes - 1) 0 in
       let some : 1 ≤ length bytes = omega (arith, long, some-length is e) in
       let split : bytes ≡ front ++ (z ∷ []) = last-apart bytes some in
       let join : others ++ bytes ≡ (others ++ front) ++ (z ∷ []) = ap (λ x. others ++ x) split ∙ sym (append-assoc others front (z ∷ [])) in
       let place : length (others ++ front) ≡ length others + (length bytes - 1) = length-append others front ∙ ap (λ n. length others + n) (length-take-le (length bytes - 1) bytes (omega arith)) in (
-        ap (λ n. received calls .said ! n) (sym place)
-            ∙ d .complete (others ++ front) z [] (taken ∙ join) .1 (record { before = others; part = bytes; split = sym join; whole = undamaged }),
+        ap (λ i. received n calls .said ! i) (sym place)
+            ∙ d .complete (others ++ front) z [] (taken ∙ join) .1 (record { before = others; part = bytes; split = sym join; whole = undamaged; marked = marked n hm }),
         held-header ∙ header-is,
         held-modes ∙ modes-is,
         held-grid ∙ grid-is,
@@ -215,7 +222,7 @@ module _ (p : ℕ) (h : WriterHeader) (modes payload : List ℕ) (t : Accepted p
         undamaged = undamaged;
         long = long;
         placed = placed;
-        last = ap (λ n. singly bytes .said ! n) (sym (zero-add (length bytes - 1))) ∙ anywhere (map (λ b. onGrid (byte b)) bytes) [] (singly-taken bytes) .0;
-        before = not-before bytes undamaged;
+        last = λ n hm. ap (λ i. singly n bytes .said ! i) (sym (zero-add (length bytes - 1))) ∙ anywhere n hm (map (λ b. onGrid (byte b)) bytes) [] (singly-taken n bytes) .0;
+        before = λ n. never-before n bytes undamaged;
         anywhere = anywhere;
       }

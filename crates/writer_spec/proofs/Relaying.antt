@@ -23,9 +23,9 @@ use Rattle.writer_spec.proofs.Rewriting.{rewritten}
 one-more : (n : ℕ) → 1 ≤ n → suc (n - 1) ≡ n
 one-more n l = omega arith
 
-module _ (calls : List Call) (r : Request) (complete : number (ask (received calls .state) (received calls .grid) r .reply) ≡ 3) where
+module _ (asked : ℕ) (calls : List Call) (r : Request) (complete : number (ask (received asked calls .state) (received asked calls .grid) r .reply) ≡ 3) where
   abbrev a : After
-  a = received calls
+  a = received asked calls
 
   abbrev list : List Call
   list = calls ++ (onGrid r ∷ [])
@@ -33,13 +33,13 @@ module _ (calls : List Call) (r : Request) (complete : number (ask (received cal
   abbrev outcome : CallOutcome
   outcome = ask (a .state) (a .grid) r
 
-  here : received list ≡ add a r outcome
+  here : received asked list ≡ add a r outcome
   unfolding next
-  here = after-last calls (onGrid r) start
+  here = after-last calls (onGrid r) (start asked)
 
   -- a byte was taken, and no more than there are
   some-taken : (1 ≤ outcome .count) × (outcome .count ≤ length (bytesOf r))
-  some-taken = counts r complete (received (calls ++ (onGrid r ∷ []))) (demand-3 list .each calls (onGrid r) [] refl)
+  some-taken = counts r complete (received asked (calls ++ (onGrid r ∷ []))) (demand-3 asked list .each calls (onGrid r) [] refl)
     where
       counts : (r : Request) → number (ask (a .state) (a .grid) r .reply) ≡ 3
           → (z : After) → Rattle.receiver_spec.specs.Demand3.CallMade a (onGrid r) z → (1 ≤ ask (a .state) (a .grid) r .count) × (ask (a .state) (a .grid) r .count ≤ length (bytesOf r))
@@ -56,7 +56,7 @@ module _ (calls : List Call) (r : Request) (complete : number (ask (received cal
   abbrev last : ℕ
   last = getD (bytesOf r) n 0
 
-  taken-is : received list .taken ≡ front ++ (last ∷ [])
+  taken-is : received asked list .taken ≡ front ++ (last ∷ [])
   taken-is =
       let (some, most) = some-taken in
       ap (λ (z : After). z .taken) here
@@ -64,40 +64,40 @@ module _ (calls : List Call) (r : Request) (complete : number (ask (received cal
       ∙ sym (append-assoc (a .taken) (take n (bytesOf r)) (last ∷ []))
 
   -- the last byte taken was answered 3
-  last-said : received list .said ! length front ≡ 3
+  last-said : received asked list .said ! length front ≡ 3
   last-said =
       let (some, most) = some-taken in
-      let same : length (a .said) ≡ length (a .taken) = ap length (calls-stepped calls .said) ∙ answers-long (a .taken) fresh emptyGrid in
+      let same : length (a .said) ≡ length (a .taken) = ap length (calls-stepped asked calls .said) ∙ answers-long (a .taken) (fresh asked) emptyGrid in
       let place : length front ≡ length (a .said) + n = length-append (a .taken) (take n (bytesOf r)) ∙ omega (arith, same, length-take-le n (bytesOf r) (omega (arith, some, most))) in
       ap₂ (λ (t : List ℕ) i. t ! i) (ap (λ (z : After). z .said) here) place
       ∙ getD-append-add (a .said) (spread (outcome .count) (number (outcome .reply))) n 0
       ∙ ap₂ (λ m k. spread m k ! n) (sym (one-more (outcome .count) some)) complete
       ∙ spread-last n 3
 
-  ends : EndsUndamaged (front ++ (last ∷ []))
-  ends = demand-3 list .complete front last [] taken-is .0 last-said
+  ends : EndsUndamaged asked (front ++ (last ∷ []))
+  ends = demand-3 asked list .complete front last [] taken-is .0 last-said
 
   abbrev u : UndamagedPart (ends .part)
   u = ends .whole
 
-  split : received list .taken ≡ ends .before ++ ends .part
+  split : received asked list .taken ≡ ends .before ++ ends .part
   split = taken-is ∙ ends .split
 
   tells : outcome .reply ≡ partComplete (heldPart (u .part))
-  tells = demand-3 list .completeTells calls r [] refl complete (ends .before) (ends .part) u split
+  tells = demand-3 asked list .completeTells calls r [] refl complete (ends .before) (ends .part) u split
 
   abbrev p : ℕ
   p = heldPart (u .part)
 
   -- what is held is the part's
-  handed : writes p (writerHeaderOf (received list .state .header)) (received list .state .modes) (take (payloadLength p) (received list .grid))
+  handed : writes p (writerHeaderOf (received asked list .state .header)) (received asked list .state .modes) (take (payloadLength p) (received asked list .grid))
       ≡ writes p (writerHeaderOf (partHeader (u .part))) (partModes (u .part)) (heldPayload (u .part))
   handed =
-      let (header, modes, grid) = held-then list (ends .before) (ends .part) u split in
-      ap₂ (λ (h : Header) m. writes p (writerHeaderOf h) m (take (payloadLength p) (received list .grid))) header modes
+      let (header, modes, grid) = held-then asked list (ends .before) (ends .part) u (ends .marked) split in
+      ap₂ (λ (h : Header) m. writes p (writerHeaderOf h) m (take (payloadLength p) (received asked list .grid))) header modes
       ∙ ap (λ g. writes p (writerHeaderOf (partHeader (u .part))) (partModes (u .part)) (take (payloadLength p) g)) grid
 
-  pub relay : Relayed calls r
+  pub relay : Relayed asked calls r
   relay =
       record {
         before = ends .before;

@@ -20,12 +20,12 @@ use Rattle.general_laws.proofs.Tests.{by-test, and-split, neither}
 use Rattle.text_laws.proofs.KindTable.{by-part, no-texts}
 use Rattle.text_laws.proofs.Framing.{text-length}
 use Rattle.text_laws.proofs.Blocks.{PartRules, part-rules}
-use Rattle.text_laws.proofs.Parts.{start-long, end-long}
+use Rattle.text_laws.proofs.Parts.{start-long, end-long, every-zeros}
 use Rattle.writer_spec.specs.Written.{writesNoEcho, statusByte, timeText, blockOf, startContents, endContents, dataBlocks, writtenPart}
 use Rattle.writer_spec.specs.Demand2.{heldPart, heldPayload, rewrittenPart, hasAllZeroData, endAt, startPlaces, endPlaces, mayDiffer, plainStatus, plainMode, isPlain, noEchoStart, noEchoEnd, Rewritten, isPlainStart, isPlainEnd}
 use Rattle.writer_spec.proofs.Places.{in-shifted, append-agrees, sets-at, sets-same, text-agrees, start-byte-at, end-byte-at, bytes-long, start-check-at, end-check-at}
 use Rattle.writer_spec.proofs.WrittenAgain.{start-again, end-again, datas-again}
-use Rattle.writer_spec.proofs.HeldPart.{every-zeros, is-part-number, held-payload, radars-long, held-taken}
+use Rattle.writer_spec.proofs.HeldPart.{is-part-number, held-payload, radars-long, held-taken}
 
 -- ---- how many data texts
 

@@ -16,6 +16,7 @@ use Rattle.text.specs.Part.{Part, partBytes, startPart, dataTextsAfter, Undamag
 use Rattle.text.specs.WriterInput.{writerHeaderOf, isWriterInput}
 use Rattle.text.specs.declared.header.Header.{Header}
 use Rattle.text.specs.declared.header.WriterHeader.{WriterHeader}
+use Rattle.receiver_spec.specs.Marks.{isMarked, marksFrom}
 use Rattle.receiver_spec.specs.Calls.{partComplete, number, Request, Call, onGrid, ask, received, singly}
 use Rattle.writer_spec.specs.Written.{writesNoEcho, statusByte, writtenPart, isPayload, bytesWritten, refused, writes}
 
@@ -44,7 +45,7 @@ writtenHeader p h modes payload =
       noecho = writesNoEcho p payload;
     }
 
--- Written reads back
+-- Written reads back; by a receiver, asked for with the number n, that has the picture marked (Request 101)
 pub record ReadsBack (p : ℕ) (h : WriterHeader) (modes payload : List ℕ) : Type 0 where
   -- the bytes are an undamaged part, as long as was said
   pub undamaged : UndamagedPart (written p h modes payload)
@@ -53,16 +54,16 @@ pub record ReadsBack (p : ℕ) (h : WriterHeader) (modes payload : List ℕ) : T
   -- behind them
   pub placed : (output : List ℕ) → length (written p h modes payload) ≤ length output
       → writes p h modes payload output ≡ record { answer = bytesWritten (length (written p h modes payload)); count = length (written p h modes payload); output = written p h modes payload ++ drop (length (written p h modes payload)) output }
-  -- a fresh receiver that is given them one by one answers complete at the last byte and not before
-  pub last : singly (written p h modes payload) .said ! (length (written p h modes payload) - 1) ≡ 3
-  pub before : (i : ℕ) → suc i < length (written p h modes payload) → singly (written p h modes payload) .said ! i ≢ 3
+  -- a fresh receiver that is given them one by one answers complete at the last byte; and not before, whatever its marks
+  pub last : (n : ℕ) → isMarked (marksFrom n) (h .picture) ≡ true → singly n (written p h modes payload) .said ! (length (written p h modes payload) - 1) ≡ 3
+  pub before : (n i : ℕ) → suc i < length (written p h modes payload) → singly n (written p h modes payload) .said ! i ≢ 3
   -- whatever calls took them, and whatever bytes were taken before: complete at the last byte, and the same header,
   -- modes and grid
-  pub anywhere : (calls : List Call) (others : List ℕ) → received calls .taken ≡ others ++ written p h modes payload
-      → (received calls .said ! (length others + (length (written p h modes payload) - 1)) ≡ 3)
-      × (received calls .state .header ≡ writtenHeader p h modes payload)
-      × (received calls .state .modes ≡ modes)
-      × (received calls .grid ≡ payload ++ zeros (gridLength - length payload))
+  pub anywhere : (n : ℕ) → isMarked (marksFrom n) (h .picture) ≡ true → (calls : List Call) (others : List ℕ) → received n calls .taken ≡ others ++ written p h modes payload
+      → (received n calls .said ! (length others + (length (written p h modes payload) - 1)) ≡ 3)
+      × (received n calls .state .header ≡ writtenHeader p h modes payload)
+      × (received n calls .state .modes ≡ modes)
+      × (received n calls .grid ≡ payload ++ zeros (gridLength - length payload))
 
 -- What a receiver holds after an undamaged part, handed to the writer: header without status bytes, modes, and the
 -- payload's bytes of the grid
@@ -152,15 +153,15 @@ pub record Rewritten (bytes : List ℕ) (u : UndamagedPart bytes) : Type 0 where
 -- Complete is rewritten, of calls: one more call r after these was answered 3, complete. The bytes taken end with an
 -- undamaged part, whose number complete tells; that number with the header, modes and grid returned and left, handed
 -- to the writer with an output that has room, is taken; and what is written is that part, but for what 01 names
-pub record Relayed (calls : List Call) (r : Request) : Type 0 where
+pub record Relayed (n : ℕ) (calls : List Call) (r : Request) : Type 0 where
   pub before : List ℕ
   pub bytes : List ℕ
-  pub split : received (calls ++ (onGrid r ∷ [])) .taken ≡ before ++ bytes
+  pub split : received n (calls ++ (onGrid r ∷ [])) .taken ≡ before ++ bytes
   pub whole : UndamagedPart bytes
-  pub tells : ask (received calls .state) (received calls .grid) r .reply ≡ partComplete (heldPart (whole .part))
+  pub tells : ask (received n calls .state) (received n calls .grid) r .reply ≡ partComplete (heldPart (whole .part))
   pub taken : (output : List ℕ) → length (partBytes (rewrittenPart (whole .part))) ≤ length output
       → let p = heldPart (whole .part) in
-      let here = received (calls ++ (onGrid r ∷ [])) in
+      let here = received n (calls ++ (onGrid r ∷ [])) in
       let again = partBytes (rewrittenPart (whole .part)) in
       writes p (writerHeaderOf (here .state .header)) (here .state .modes) (take (payloadLength p) (here .grid)) output
       ≡ record { answer = bytesWritten (length again); count = length again; output = again ++ drop (length again) output }
@@ -177,7 +178,8 @@ pub record RefusedByRow (p : ℕ) (h : WriterHeader) (modes payload output : Lis
       → length output < partLength p (writesNoEcho p payload)
       → writes p h modes payload output ≡ record { answer = refused 34; count = 0; output = output }
 
--- The two halves, for all input; and the second of every list of calls, and each call of it that is answered complete
+-- The two halves, for all input; and the second of every list of calls, whatever number its receiver was asked for with,
+-- and each call of it that is answered complete
 pub record Demand2 : Type 0 where
   -- What the writer takes reads back
   pub readsBack : (p : ℕ) (h : WriterHeader) (modes payload : List ℕ) → Accepted p h modes payload → ReadsBack p h modes payload
@@ -193,4 +195,4 @@ pub record Demand2 : Type 0 where
   -- others are 0
   pub statusBits : (p b k : ℕ) → k < 8 → bit (plainStatus p b) k ≡ (eqb k 3 && (bit b 3 && not (eqb p 3)))
   pub modeBits : (b : ℕ) → b < 256 → hasMode b ≡ true → (k : ℕ) → k < 8 → bit (plainMode b) k ≡ (isIn k (2 ∷ 4 ∷ 6 ∷ []) && bit b k)
-  pub relayed : (calls : List Call) (r : Request) → number (ask (received calls .state) (received calls .grid) r .reply) ≡ 3 → Relayed calls r
+  pub relayed : (n : ℕ) (calls : List Call) (r : Request) → number (ask (received n calls .state) (received n calls .grid) r .reply) ≡ 3 → Relayed n calls r

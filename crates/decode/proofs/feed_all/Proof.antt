@@ -6,10 +6,10 @@ use Rattle.decode.proofs.feed_all.Statement.{statement}
 use Rattle.decode.proofs.feed_all.Tie as tie
 
 abbrev Inv-loop : tie.InvT-loop
-Inv-loop grid₀ buffer₀ counts₀ fed₀ turns₀ grid buffer counts fed turns = (length grid ≡ length grid₀) × (length buffer ≡ length buffer₀) × (length counts ≡ length counts₀)
+Inv-loop marks grid₀ buffer₀ counts₀ fed₀ turns₀ grid buffer counts fed turns = (length grid ≡ length grid₀) × (length buffer ≡ length buffer₀) × (length counts ≡ length counts₀)
 
 abbrev μ-loop : tie.MeasureT-loop
-μ-loop grid₀ buffer₀ counts₀ fed₀ turns₀ grid buffer counts fed turns = turns
+μ-loop marks grid₀ buffer₀ counts₀ fed₀ turns₀ grid buffer counts fed turns = turns
 
 pub feed-all-spec : {M : Type 1} → statement M
 feed-all-spec =

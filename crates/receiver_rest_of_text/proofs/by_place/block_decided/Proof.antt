@@ -20,7 +20,7 @@ module _ (s : State) (b : ℕ) {e : EnterResult} (q : e ≡ enteredHere s b) whe
   broken f = sym (ap (byEntered s b) (sym q) ∙ rw f)
 
   kept : e .kept ≡ true
-      → goesOn (state (s .seen) (s .frame) (e .header) (e .modes)) (advanced (s .frame) (s .frame .check ⊕ b)) Quiet (e .effect) ≡ blockDecided s b
+      → goesOn (state (s .seen) (s .frame) (e .header) (e .modes) (s .marks)) (advanced (s .frame) (s .frame .check ⊕ b)) Quiet (e .effect) ≡ blockDecided s b
   unfolding blockDecided
   kept t = sym (ap (byEntered s b) (sym q) ∙ rw t)
 

@@ -1,4 +1,4 @@
--- The three rules of the definition, two of them from calls. Assumes nothing.
+-- The four rules of the definition, three of them from calls. Assumes nothing.
 use mathlib.Core.Bool.{and-true, and-assoc}
 use borrow.Author.Needs.{needs}
 use Rattle.general_laws.specs.Bytes.{allOf}
@@ -10,7 +10,7 @@ use Rattle.receiver_state_ranges.proofs.ranges.is_possible.Tie as tie
 
 returns : tie.Need-returns
 unfolding isPossible kindUnread kindRead fitsPart frameFits allOf
-returns c = simp (c .before .is-due .ensures, c .frame-fits .ensures, length-seen, and-true, and-assoc)
+returns c = simp (c .before .before .is-due .ensures, c .before .frame-fits .ensures, c .are-marks .ensures, length-seen, and-true, and-assoc)
 
 pub is-possible-spec : {M : Type 1} → statement M
-is-possible-spec = tie.close (tie.spec (λ c κs. search needs) (λ c κs. search needs) returns)
+is-possible-spec = tie.close (tie.spec (λ c κs. search needs) (λ c κs. search needs) (λ c κs. search needs) returns)

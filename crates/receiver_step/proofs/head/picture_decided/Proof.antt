@@ -9,11 +9,19 @@ returns : tie.Need-returns
 unfolding pictureDecided
 returns c =
     let test = c .before .before in
-    simp (c .goes-on .ensures, c .before .onward .ensures, sym (test .before .is-picture-code .ensures) ∙ test .if1 .taken)
+    simp (c .goes-on .ensures, c .before .onward .ensures, sym (test .before .is-marked .ensures) ∙ test .if1 .taken)
 
 returns-2 : tie.Need-returns-2
 unfolding pictureDecided
-returns-2 c = simp (c .drops .ensures, sym (c .before .before .is-picture-code .ensures) ∙ c .before .if1 .left)
+returns-2 c =
+    let listed = c .before in
+    simp (c .drops .ensures, sym (listed .before .is-picture-code .ensures) ∙ listed .if2 .taken, sym (listed .before .before .before .is-marked .ensures) ∙ listed .before .before .if1 .left)
+
+returns-3 : tie.Need-returns-3
+unfolding pictureDecided
+returns-3 c =
+    let listed = c .before in
+    simp (c .drops2 .ensures, sym (listed .before .is-picture-code .ensures) ∙ listed .if2 .left, sym (listed .before .before .before .is-marked .ensures) ∙ listed .before .before .if1 .left)
 
 pub picture-decided-spec : {M : Type 1} → statement M
 picture-decided-spec =
@@ -24,4 +32,7 @@ picture-decided-spec =
     (λ c κs. search needs)
     returns
     (λ c κs. search needs)
-    returns-2)
+    (λ c κs. search needs)
+    returns-2
+    (λ c κs. search needs)
+    returns-3)

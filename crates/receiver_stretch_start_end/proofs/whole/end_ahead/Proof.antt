@@ -10,17 +10,17 @@ use Rattle.receiver_stretch_start_end.proofs.whole.end_ahead.Tie as tie
 block-long : tie.Need-slice-aggregate-block
 block-long c =
     let start = c .before .before .before .before in
-    sym (length-take-le 32 (start .args .bytes .now) (omega (arith, start .pre .1)))
+    sym (length-take-le 32 (start .args .bytes .now) (omega (arith, start .pre .1 .0)))
 
 picture-there : tie.Need-shared-slice-read-picture
 picture-there c =
     let start = c .before .before .before .before .before in
-    in-block (start .args .bytes .now) 1 (start .pre .1) (omega arith)
+    in-block (start .args .bytes .now) 1 (start .pre .1 .0) (omega arith)
 
 kind-there : tie.Need-shared-slice-read-kind
 kind-there c =
     let start = c .before .before .before .before .before .before in
-    in-block (start .args .bytes .now) 2 (start .pre .1) (omega arith)
+    in-block (start .args .bytes .now) 2 (start .pre .1 .0) (omega arith)
 
 returns : tie.Need-returns
 returns c g =
@@ -44,7 +44,7 @@ stretch-long : tie.Need-slice-aggregate-seen-behind
 stretch-long c =
     let gap = c .before .before .before .before .before .before .before .before .before .before .before .before in
     let start = gap .before .before .before .before .before .before .before in
-    sym (length-take-le 34 (start .args .bytes .now) (omega (arith, start .pre .1)))
+    sym (length-take-le 34 (start .args .bytes .now) (omega (arith, start .pre .1 .0)))
 
 returns-3 : tie.Need-returns-3
 returns-3 c =
@@ -58,7 +58,7 @@ returns-3 c =
     let start = known .before in
     let a = start .args in
     end-on (a .s) (a .bytes .now) (gap .is-gap .ensures) (kind .kind-of .ensures) (due .if1 .left) (sum .check-byte .ensures) (read .read-end .ensures) (test .if2 .left)
-    (search (needs, start .good .0 .1 .1 .1 .1 .1 .0)) (start .pre .0) (start .pre .1) (λ j. omega (arith, known .shared-slice-known .given j)) (c .seen-behind .ensures)
+    (search (needs, start .good .0 .1 .1 .1 .1 .1 .0)) (start .pre .0) (start .pre .1 .0) (λ j. omega (arith, known .shared-slice-known .given j)) (start .pre .1 .1) (c .seen-behind .ensures)
 
 pub end-ahead-spec : {M : Type 1} → statement M
 end-ahead-spec =

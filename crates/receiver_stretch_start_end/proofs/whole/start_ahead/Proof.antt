@@ -10,7 +10,7 @@ use Rattle.receiver_stretch_start_end.proofs.whole.start_ahead.Tie as t
 block-long : tie.Need-slice-aggregate-block
 block-long c =
     let start = c .before .before in
-    sym (length-take-le 32 (start .args .bytes .now) (omega (arith, start .pre .1 .1)))
+    sym (length-take-le 32 (start .args .bytes .now) (omega (arith, start .pre .1 .1 .0)))
 
 returns : tie.Need-returns
 returns c g =
@@ -22,17 +22,17 @@ returns c g =
 kind-there : tie.Need-shared-slice-read-t12
 kind-there c =
     let start = c .before .before .before .before .before .before .before .before .before .before in
-    in-block (start .args .bytes .now) 2 (start .pre .1 .1) (omega arith)
+    in-block (start .args .bytes .now) 2 (start .pre .1 .1 .0) (omega arith)
 
 picture-there : tie.Need-shared-slice-read-t15
 picture-there c =
     let start = c .before .before .before .before .before .before .before .before .before .before .before in
-    in-block (start .args .bytes .now) 1 (start .pre .1 .1) (omega arith)
+    in-block (start .args .bytes .now) 1 (start .pre .1 .1 .0) (omega arith)
 
 stretch-long : tie.Need-slice-aggregate-seen-behind
 stretch-long c =
     let start = c .before .before .before .before .before .before .before .before .before .before .before .before in
-    sym (length-take-le 34 (start .args .bytes .now) (omega (arith, start .pre .1 .1)))
+    sym (length-take-le 34 (start .args .bytes .now) (omega (arith, start .pre .1 .1 .0)))
 
 returns-2 : tie.Need-returns-2
 returns-2 c =
@@ -42,8 +42,8 @@ returns-2 c =
     let known = sum .before .before in
     let start = known .before in
     let a = start .args in
-    start-on (a .s) (a .bytes .now) (sum .check-byte .ensures) (read .read-start .ensures) (test .if1 .left) (start .pre .0) (start .pre .1 .0) (start .pre .1 .1)
-    (λ j. omega (arith, known .shared-slice-known .given j)) (c .seen-behind .ensures)
+    start-on (a .s) (a .bytes .now) (sum .check-byte .ensures) (read .read-start .ensures) (test .if1 .left) (start .pre .0) (start .pre .1 .0) (start .pre .1 .1 .0)
+    (λ j. omega (arith, known .shared-slice-known .given j)) (start .pre .1 .1 .1) (c .seen-behind .ensures)
 
 pub start-ahead-spec : {M : Type 1} → statement M
 start-ahead-spec =

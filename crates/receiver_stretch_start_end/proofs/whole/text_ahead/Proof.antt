@@ -1,16 +1,19 @@
 -- A whole text where one stands behind the opening, else nothing. Assumes nothing.
-use mathlib.Core.Path.{_≡_, sym, _∙_}
+use mathlib.Core.Path.{_≡_, refl, sym, _∙_}
 use mathlib.Core.Logic.{⊎-elim}
-use mathlib.Core.Bool.{Bool, true, false, not, _||_, and-false}
+use mathlib.Core.Bool.{Bool, true, false, not, _&&_, _||_, and-false}
 use mathlib.Core.List.{List}
 use Prim.Native.Nat.{ℕ, _≤_}
-use lib.Dec.{ltb}
+use native.Mathlib.Omega.{arith}
+use lib.Dec.{leb, ltb}
 use lib.ListN.{length, take}
 use borrow.Author.Needs.{needs}
 use borrow.Author.Tests.{ltb-true, ltb-false, le-leb, lt-leb, not-true, not-false}
+use Rattle.general_laws.specs.Bytes.{_!_}
 use Rattle.text.specs.Text.{FD}
-use Rattle.general_laws.proofs.Tests.{or-split, neither}
+use Rattle.general_laws.proofs.Tests.{by-if, or-split, neither}
 use Rattle.receiver_spec.specs.Seen.{endsOpening}
+use Rattle.receiver_spec.specs.Marks.{isMarked}
 use Rattle.receiver_bytes_seen.specs.AsNumber.{seenOf}
 use Rattle.receiver_state.specs.declared.state.State.{State}
 use Rattle.receiver_stretches.specs.Run.{Passes}
@@ -33,46 +36,74 @@ module _ (s : State) (bytes : List ℕ) {o : Bool} (e : o ≡ endsOpening (seenO
       let (l, n) = neither (ltb (length bytes) 34) (not o) f in
       (ltb-false (length bytes) 34 l, sym e ∙ not-false o n)
 
-  start-text : {r : StretchResult} → (ltb (length bytes) 34 || not o) ≡ false → isIdle (s .frame) ≡ true → Passes s (take (startAhead bytes) bytes) r
-      → Passes s (take (textAhead s bytes) bytes) r
-  unfolding textAhead
-  start-text {r} f i p = let (l, n) = text-has f in rw (le-leb 34 (length bytes) l, n, i) p
+  -- the picture is unmarked, or marked
+  module _ {m : Bool} (k : m ≡ isMarked (s .marks) (bytes ! 1)) where
+    unmarked-text : not m ≡ true → textAhead s bytes ≡ 0
+    unfolding textAhead
+    unmarked-text t =
+        by-if (λ n. n ≡ 0) (leb 34 (length bytes) && endsOpening (seenOf (s .seen) (s .frame .count)) FD) (λ _. rw (sym k ∙ not-true m t)) (λ _. refl)
 
-  end-text : {r : StretchResult} → (ltb (length bytes) 34 || not o) ≡ false → isIdle (s .frame) ≡ false → Passes s (take (endAhead s bytes) bytes) r
-      → Passes s (take (textAhead s bytes) bytes) r
-  unfolding textAhead
-  end-text {r} f i p = let (l, n) = text-has f in rw (le-leb 34 (length bytes) l, n, i) p
+    start-text : {r : StretchResult} → (ltb (length bytes) 34 || not o) ≡ false → not m ≡ false → isIdle (s .frame) ≡ true → Passes s (take (startAhead bytes) bytes) r
+        → Passes s (take (textAhead s bytes) bytes) r
+    unfolding textAhead
+    start-text {r} f t i p = let (l, n) = text-has f in rw (le-leb 34 (length bytes) l, n, sym k ∙ not-false m t, i) p
+
+    end-text : {r : StretchResult} → (ltb (length bytes) 34 || not o) ≡ false → not m ≡ false → isIdle (s .frame) ≡ false → Passes s (take (endAhead s bytes) bytes) r
+        → Passes s (take (textAhead s bytes) bytes) r
+    unfolding textAhead
+    end-text {r} f t i p = let (l, n) = text-has f in rw (le-leb 34 (length bytes) l, n, sym k ∙ not-false m t, i) p
 
 returns : tie.Need-returns
 returns c g =
     let a = c .before .before .before .before .args in
     none-passed (a .s) (a .bytes .now) g (no-text (a .s) (a .bytes .now) (c .before .ends-opening .ensures) (c .if1 .taken))
 
-start-ahead-requires : tie.Need-start-ahead-requires
-start-ahead-requires c κs =
-    let test = c .before .before in
+there : tie.Need-shared-slice-read-is-marked
+there c =
+    let test = c .before in
     let a = test .before .before .before .before .args in
-    let (l, n) = text-has (a .s) (a .bytes .now) (test .before .ends-opening .ensures) (test .if1 .left) in
-    (sym (c .before .is-idle .ensures) ∙ c .if2 .taken, (n, l))
+    omega (arith, text-has (a .s) (a .bytes .now) (test .before .ends-opening .ensures) (test .if1 .left) .0)
 
 returns-2 : tie.Need-returns-2
-returns-2 c =
-    let idle = c .before in
-    let test = idle .before .before in
-    start-text _ _ (test .before .ends-opening .ensures) (test .if1 .left) (sym (idle .before .is-idle .ensures) ∙ idle .if2 .taken) (c .start-ahead .ensures)
+returns-2 c g =
+    let marked = c .before in
+    let test = marked .before .before in
+    let a = test .before .before .before .before .args in
+    none-passed (a .s) (a .bytes .now) g (unmarked-text (a .s) (a .bytes .now) (test .before .ends-opening .ensures) (marked .is-marked .ensures) (c .if2 .taken))
 
-end-ahead-requires : tie.Need-end-ahead-requires
-end-ahead-requires c κs =
-    let test = c .before .before in
+start-ahead-requires : tie.Need-start-ahead-requires
+start-ahead-requires c κs =
+    let picture = c .before .before in
+    let marked = picture .before in
+    let test = marked .before .before in
     let a = test .before .before .before .before .args in
     let (l, n) = text-has (a .s) (a .bytes .now) (test .before .ends-opening .ensures) (test .if1 .left) in
-    (n, l)
+    (sym (c .before .is-idle .ensures) ∙ c .if3 .taken, (n, (l, sym (marked .is-marked .ensures) ∙ not-false _ (picture .if2 .left))))
 
 returns-3 : tie.Need-returns-3
 returns-3 c =
     let idle = c .before in
-    let test = idle .before .before in
-    end-text _ _ (test .before .ends-opening .ensures) (test .if1 .left) (sym (idle .before .is-idle .ensures) ∙ idle .if2 .left) (c .end-ahead .ensures)
+    let picture = idle .before .before in
+    let marked = picture .before in
+    let test = marked .before .before in
+    start-text _ _ (test .before .ends-opening .ensures) (marked .is-marked .ensures) (test .if1 .left) (picture .if2 .left) (sym (idle .before .is-idle .ensures) ∙ idle .if3 .taken) (c .start-ahead .ensures)
+
+end-ahead-requires : tie.Need-end-ahead-requires
+end-ahead-requires c κs =
+    let picture = c .before .before in
+    let marked = picture .before in
+    let test = marked .before .before in
+    let a = test .before .before .before .before .args in
+    let (l, n) = text-has (a .s) (a .bytes .now) (test .before .ends-opening .ensures) (test .if1 .left) in
+    (n, (l, sym (marked .is-marked .ensures) ∙ not-false _ (picture .if2 .left)))
+
+returns-4 : tie.Need-returns-4
+returns-4 c =
+    let idle = c .before in
+    let picture = idle .before .before in
+    let marked = picture .before in
+    let test = marked .before .before in
+    end-text _ _ (test .before .ends-opening .ensures) (marked .is-marked .ensures) (test .if1 .left) (picture .if2 .left) (sym (idle .before .is-idle .ensures) ∙ idle .if3 .left) (c .end-ahead .ensures)
 
 pub text-ahead-spec : {M : Type 1} → statement M
 text-ahead-spec =
@@ -80,8 +111,11 @@ text-ahead-spec =
     (tie.spec
     (λ c κs. search needs)
     returns
+    there
+    (λ c κs. search needs)
+    returns-2
     (λ c κs. search needs)
     start-ahead-requires
-    returns-2
+    returns-3
     end-ahead-requires
-    returns-3)
+    returns-4)

@@ -15,7 +15,7 @@ abbrev μ-loop : tie.MeasureT-loop
 μ-loop grid₀ bytes s₀ answer₀ at₀ grid s answer at = length bytes - at
 
 loop-holds : tie.Need-loop-holds Inv-loop μ-loop
-loop-holds c = begins _ _ _ (c .fresh .ensures .0) (c .before .before .before .pre)
+loop-holds c = begins _ _ _ (c .fresh-for-all .ensures) (c .before .before .before .pre)
 
 add-at : tie.Need-add-at Inv-loop μ-loop
 add-at c =

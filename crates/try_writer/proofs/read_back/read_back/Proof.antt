@@ -18,13 +18,13 @@ add-at : tie.Need-add-at Inv-loop μ-loop
 add-at c =
     let call = c .before .before in
     let turn = call .before .before .before .before in
-    omega (arith, turn .loop .inv .0, turn .before .before .before .good, count-behind (call .slice-call .result) _ _ _ (turn .before .before .before .args .bytes .now) (turn .loop .at) (call .slice-call .ensures .0))
+    omega (arith, turn .loop .inv .0, turn .before .before .before .before .good, count-behind (call .slice-call .result) _ _ _ (turn .before .before .before .before .args .bytes .now) (turn .loop .at) (call .slice-call .ensures .0))
 
 loop-again : tie.Need-loop-again Inv-loop μ-loop
 loop-again c =
     let call = c .before .before .before .before .before .before in
     let turn = call .before .before .before .before in
-    search (needs, count-behind (call .slice-call .result) _ _ _ (turn .before .before .before .args .bytes .now) (turn .loop .at) (call .slice-call .ensures .0))
+    search (needs, count-behind (call .slice-call .result) _ _ _ (turn .before .before .before .before .args .bytes .now) (turn .loop .at) (call .slice-call .ensures .0))
 
 pub read-back-spec : {M : Type 1} → statement M
 read-back-spec =
@@ -32,6 +32,7 @@ read-back-spec =
     (tie.spec
     Inv-loop
     μ-loop
+    (λ c κs. search needs)
     (λ c κs. search needs)
     (λ c. search needs)
     (λ c. search needs)

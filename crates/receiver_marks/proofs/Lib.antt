@@ -1,0 +1,3 @@
+-- The laws behind the marks' code. Laws is what other crates may rest on.
+pub mod Laws
+pub mod PlaceLaws

@@ -1,0 +1,2 @@
+-- The marks in the code's terms. Assumes nothing.
+pub mod Places

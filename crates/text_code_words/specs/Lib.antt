@@ -1,0 +1,2 @@
+-- What a word stands for. Assumes nothing.
+pub mod Words
