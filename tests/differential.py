@@ -9,8 +9,12 @@ into a temporary folder with $CC (else cc).  For seed, seed + 1, ... until the
 time is up a stream is made, and many short ones are cut from it (0 to 300
 bytes, at any place); another is made of parts that some receivers are to take
 and others not (Request 101).  With each stream go numbers that receivers are
-made from: a few marks or many, none, all, or marks beyond the twentieth.  On
-each stream the complete outputs are compared:
+made from: a few marks or many, none, all, or marks beyond the twentieth.  At
+last come parts with altered bytes, at most one in each text and none altered to
+FD (Request 113), with whole parts between them and with parts outside the
+request's limits: two altered bytes in one text that make another undamaged part,
+and one altered to FD where an undamaged part then ends.  They stand one behind
+the other in a stream.  On each stream the complete outputs are compared:
 
     listen          from a file, and through a pipe in pieces   second answers
     try_byte_call   from a file                                 second totals
@@ -21,12 +25,19 @@ each stream the complete outputs are compared:
     try_bytes_left  from a file                                 second left
     try_marks       the numbers and the stream, from a file     second marks
 
+Each altered part is besides given alone to `listen`, and some to try_byte_call,
+try_traffic and try_marks: whatever the model says, no complete may be among the
+lines.  In the stream, complete must come exactly at the last bytes of the other
+parts, as their generator counts them.
+
 The model is held against itself too.  For all twenty marks and for each number,
 its answers 3 must stand exactly where an undamaged part of a marked picture
 ends by the papers' definition, read without a receiver (`second parts`), and
 its answers 51 exactly where a listed code that is unmarked follows an opening.
-01's samples must come out right, bytes left count down to each text's end, and
-marks do what was worked out by hand (`second samples`).
+Of some hundreds more altered parts a seed, each alone, its receivers with several
+marks call none complete (`second try-altered`).  01's samples must come out right,
+bytes left count down to each text's end, and marks and altered parts do what was
+worked out by hand (`second samples`).
 
 The first difference ends the run with status 1; it is printed with program,
 seed and place, and the stream is kept in a file that is named.  Otherwise the
@@ -55,7 +66,8 @@ import sys
 import tempfile
 import threading
 import time
-from collections import Counter
+from collections import Counter, namedtuple
+from functools import partial
 from pathlib import Path
 from types import SimpleNamespace
 
@@ -70,11 +82,18 @@ MODEL_OF = {"listen": "answers", "try_byte_call": "totals", "try_traffic": "traf
 CORPORA = {"try_traffic": "generate", "resend": "generate", "try_bytes_left": "generate", "try_marks": "generate-marks"}
 KIND_NAMES = {1: "intensity", 2: "echo top", 3: "quality"}
 RUN_TIMEOUT = 120  # seconds for one run of a program: far above what any needs
-SHORT_STREAMS = 12  # cut from each long one
+SHORT_STREAMS = 12  # of each seed, cut from its long ones
 MOST_PIECES = 400  # of a stream sent through a pipe
 MOST_INPUT = 65_536  # bytes that try_marks reads
+ALTERED_PARTS = 16  # of each seed, each given alone
+ALTERED_TRIES = 400  # of each seed, more of them, on the model alone
 PICTURES = bytes.fromhex("C0C1C2C4C5C8C9CCD2D3D4D5D8DCE0E1E4E5F0F1")  # in 01's order, that of the marks
 ALL_MARKS = (1 << len(PICTURES)) - 1
+WHOLE, ALTERED, TWICE, TO_FD = range(4)  # a record's sort, as in tests/second/altered_traffic.h
+Record = namedtuple("Record", "sort alterations part")
+# The lines in which a program says that a part is complete
+COMPLETE_LINES = {"listen": rb"\d+ 3", "try_byte_call": rb"3 \d+", "try_traffic": rb"(byte|slice) \d+ 3",
+                  "try_marks": rb"(byte|slice) \d+ 3"}
 CODE_BEHIND_OPENING = re.compile(rb"\x16\x16\x16\x10\x02\xFD(?=(.))", re.DOTALL)  # it may begin an opening itself
 
 
@@ -276,6 +295,22 @@ def lines_of(answers, answer):
     return b"".join(line + b"\n" for line in answers.split(b"\n") if line.endswith(b" %d" % answer))
 
 
+def records_of(data):
+    """The records that `second generate-altered` writes."""
+    records, at = [], 0
+    while at < len(data):
+        behind = at + 6 + int.from_bytes(data[at + 2:at + 6], "big")
+        records.append(Record(data[at], data[at + 1], data[at + 6:behind]))
+        at = behind
+    return records
+
+
+def ends_of_complete(records):
+    """The listening lines of answer 3 to these one behind the other: every part but the altered ones is complete."""
+    ends = itertools.accumulate(len(record.part) for record in records)
+    return b"".join(b"%d 3\n" % end for record, end in zip(records, ends) if record.sort != ALTERED)
+
+
 class Trial:
     """One run of this driver: where things are, and the figures so far."""
 
@@ -291,6 +326,9 @@ class Trial:
         self.answers = Counter()
         self.answers_of_numbers = Counter()
         self.complete = Counter()
+        self.alone = Counter()  # of the parts given alone to `listen`
+        self.answers_alone = Counter()  # to the altered ones among these
+        self.tried = Counter()  # of the model alone
 
     def check_model(self, stream, number):
         """Complete exactly where an undamaged part of a marked picture ends, and 51 exactly at unmarked codes."""
@@ -348,6 +386,49 @@ class Trial:
             self.check_program(name, program, stream, chooser)
         self.count(stream)
 
+    def check_alone(self, record, numbers, chooser):
+        """An altered part, or one outside the limits, to fresh receivers: no complete, or one at its last byte."""
+        self.stream_file.write_bytes(record.part)
+        self.marks_file.write_bytes(with_numbers(numbers, record.part))
+        complete = self.check_model(record.part, ALL_MARKS)[3]
+        if complete != (0 if record.sort == ALTERED else 1):
+            raise Difference(f"the model calls a part complete {complete} times, sort {record.sort}")
+        for name, program in self.programs.items():
+            if name != "listen" and (name not in COMPLETE_LINES or chooser.random() < 0.85):
+                continue
+            given = self.marks_file if name == "try_marks" else self.stream_file
+            output = run([program], given)
+            if record.sort == ALTERED:
+                called = [line for line in output.split(b"\n") if re.fullmatch(COMPLETE_LINES[name], line)]
+                if called:
+                    raise Difference(f"{name} calls an altered part complete: {shown(called[0])}")
+            compare(name, output, run_model([self.model, MODEL_OF[name]], given))
+            if name == "listen":
+                compare("listen, complete", lines_of(output, 3), ends_of_complete([record]), ("proved", "Request 113"))
+                self.count_alone(record, output)
+
+    def count_alone(self, record, answers):
+        """Figures of what `listen` has said of one part."""
+        of = "altered" if record.sort == ALTERED else "outside"
+        self.alone[of, "parts"] += 1
+        self.alone[of, "alterations"] += record.alterations
+        self.alone[of, "complete"] += len(lines_of(answers, 3).splitlines())
+        if record.sort == ALTERED:
+            self.answers_alone.update(int(line.split()[1]) for line in answers.splitlines())
+
+    def check_records(self, records, stream, numbers, chooser):
+        """All comparisons on a stream of these records."""
+        self.check(stream, numbers, chooser)
+        answers = run_model([self.model, "answers"], self.stream_file)
+        compare("the model against its generator", lines_of(answers, 3), ends_of_complete(records),
+                ("its receiver", "the ends of parts that are not altered"))
+
+    def try_model(self, seed):
+        """More altered parts on the model alone; where one is complete it says so and fails."""
+        for line in run_model([self.model, "try-altered", seed, ALTERED_TRIES]).decode().splitlines():
+            *name, figure = line.split()
+            self.tried[" ".join(name)] += int(figure)
+
 
 def streams_of(model, seed, length, chooser):
     """Two long streams and short ones cut from them, each with numbers, its long stream's name and its place there."""
@@ -360,6 +441,23 @@ def streams_of(model, seed, length, chooser):
         name, cut = chooser.choice((("generate", stream), ("generate-marks", bought)))
         at = chooser.randint(0, len(cut))
         yield cut[at:at + chooser.randint(0, 300)], some_numbers(chooser), name, at
+
+
+def checks_of(trial, seed, length, chooser):
+    """All checks of a seed, each a call; with its stream and numbers, and where the stream is from."""
+    for stream, numbers, name, at in streams_of(trial.model, seed, length, chooser):
+        where = f"bytes {at} to {at + len(stream)} of its stream of `{name}`"
+        yield partial(trial.check, stream, numbers, chooser), stream, numbers, where
+    records = records_of(run_model([trial.model, "generate-altered", seed, ALTERED_PARTS]))
+    for i, record in enumerate(records):
+        if record.sort != WHOLE:
+            numbers = some_numbers(chooser)
+            yield (partial(trial.check_alone, record, numbers, chooser), record.part, numbers,
+                   f"record {i} of `generate-altered`, alone")
+    stream, numbers = b"".join(record.part for record in records), some_numbers(chooser)
+    yield (partial(trial.check_records, records, stream, numbers, chooser), stream, numbers,
+           "all records of `generate-altered`")
+    yield partial(trial.try_model, seed), b"", [], "`try-altered`"
 
 
 def keep(stream, seed):
@@ -375,11 +473,11 @@ def go_through(trial, options):
     deadline = time.monotonic() + options.seconds
     for seed in itertools.count(options.seed):
         chooser = random.Random(seed)
-        for stream, numbers, name, at in streams_of(trial.model, seed, options.length, chooser):
+        for check, stream, numbers, where in checks_of(trial, seed, options.length, chooser):
             try:
-                trial.check(stream, numbers, chooser)
+                check()
             except Difference as difference:
-                print(f"DIFFERENCE at seed {seed}, bytes {at} to {at + len(stream)} of its stream of `{name}`,\n"
+                print(f"DIFFERENCE at seed {seed}, {where},\n"
                       f"  with the numbers {numbers}\n"
                       f"  {difference}\n  the stream is kept in {keep(stream, seed)}")
                 return seed, False
@@ -398,6 +496,20 @@ def print_figures(trial, first, last, seconds):
     print(f"answers: {answers}")
     print(f"answers with the marks of {trial.numbers:,} numbers: {of_numbers}")
     print(f"complete parts: {kinds}")
+    print_altered(trial)
+
+
+def print_altered(trial):
+    """The same of Request 113."""
+    altered, outside = ({name: trial.alone[of, name] for name in ("parts", "alterations", "complete")}
+                       for of in ("altered", "outside"))
+    answers = ", ".join(f"{answer}: {count:,}" for answer, count in sorted(trial.answers_alone.items()))
+    tried = trial.tried
+    print(f"altered parts alone: {altered['parts']:,} with {altered['alterations']:,} altered bytes, "
+          f"{altered['complete']:,} complete; outside the limits {outside['parts']:,}, {outside['complete']:,} complete")
+    print(f"answers to altered parts alone: {answers}")
+    print(f"the model alone: {tried['parts']:,} altered parts with {tried['alterations']:,} altered bytes and "
+          f"{tried['others']:,} others, {tried['runs']:,} receivers, {tried['wrong']:,} wrong")
 
 
 def chosen_programs(options):

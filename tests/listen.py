@@ -6,7 +6,8 @@
 The lines are those of the model of 01's receiver with all twenty marks, tests/model/receiver.py: "one line
 for each answer but 0: bytes read so far, a space, the answer". The stream is one after the other of the
 pieces below. Each piece is given with the answers that it must get, worked out by hand from 01's table;
-where the model gives others, this ends with an error. "Row" is a row of that table.
+where the model gives others, this ends with an error. "Row" is a row of that table. The last pieces are
+parts with altered bytes, by Request 113 and outside its limits; tests/altered.py has more of these, by chance.
 """
 
 import sys
@@ -421,6 +422,113 @@ for code in PICTURES:
 piece(CONTROL + b"\x16\x16")
 piece(start(INTENSITY) + one + two[:1000], 1, 2)
 
+# ---- Request 113: "an undamaged part with at least one altered byte, at most one in each text, and none altered to
+# `FD`, given to a fresh receiver, yields no complete". The receiver of this stream is not fresh, but each of these
+# parts finds no part open, no text under way and an `FF` seen last. Behind it stands 01's sample part, which must be
+# complete
+
+
+# The texts of a part with bytes altered, {number of the text: (place, byte)}, as one piece; then the sample part.
+# Places are those of `answered_at`, so that -5 to -1 are the control bytes
+def altered_piece(sent, changes, *answers):
+    assert texts.undamaged_part(b"".join(sent)) and changes
+    come = list(sent)
+    for i, (place, b) in changes.items():
+        assert sent[i][5 + place] != b and b != FD
+        come[i] = sent[i][:5 + place] + bytes([b]) + sent[i][6 + place:]
+    piece(b"".join(come), *answers)
+    piece(SAMPLE_START + SAMPLE_END, 1, 3)
+
+
+# The text that has not ended above is dropped (row 11)
+piece(SAMPLE_START + SAMPLE_END, 11, 1, 3)
+
+# Both texts of a NO ECHO part. A start text with a wrong check byte (row 20), and an end text with no part open (row
+# 16): another year and another mode; mode 2 in both; picture `C0` in both; the kinds of echo top; the check bytes
+# without the `FE`
+sample = [SAMPLE_START, SAMPLE_END]
+for first, second in (((11, 0x38), (3, 0x40)), ((5, 0x10), (3, 0x10)), ((1, 0xC0), (1, 0xC0)), ((2, 0x20), (2, 0x2F)),
+                      ((33, 0x4F ^ FE), (33, 0xD4 ^ FE))):
+    altered_piece(sample, {0: first, 1: second}, 20, 16)
+# Each has the other's kind: no part is open for the first (row 16); the second has `04` for block byte 3 (row 18)
+altered_piece(sample, {0: (2, 0x1F), 1: (2, 0x10)}, 16, 18)
+# `16` for the `FF` (row 21), and `00` for the `16` behind it: no opening. No `FD` in either: no text at all
+altered_piece(sample, {0: (34, 0x16), 1: (-5, 0x00)}, 21)
+altered_piece(sample, {0: (0, FE), 1: (0, 0xFF)})
+# The start text whole: a mode (row 20 at the check byte, before row 22), a start kind (rows 15 and 18), an opening
+altered_piece(sample, {1: (3, 0x40)}, 1, 20)
+altered_piece(sample, {1: (2, 0x10)}, 1, 15, 18)
+altered_piece(sample, {1: (-1, 0x10)}, 1, 12)
+
+# Echo top. NO ECHO set (row 20); the data text has a start kind, and payload `00 00 01`: no status 2 (row 18); the
+# end text has no part open. Fields of all three: a minute, an echo top, a mode where there is no radar
+of_top = [start(TOP), data(TOP, 1, TOP_PAYLOAD), end(TOP)]
+assert TOP_PAYLOAD[:3] == b"\x00\x00\x01"
+altered_piece(of_top, {0: (4, 0x08), 1: (2, 0x20), 2: (34, 0x00)}, 20, 18, 16)
+altered_piece(of_top, {0: (23, 0x35), 1: (402, 0x08), 2: (10, 0x04)}, 20, 16, 16)
+# The start text whole: data and end text have each other's kind; the last one's `FF`
+altered_piece(of_top, {1: (2, 0x2F), 2: (2, 0x21)}, 1, 16, 16)
+altered_piece(of_top, {2: (34, FE)}, 1, 2, 21)
+
+# Quality. The start text has status 1 `FD`, and `02` before it: `02 FD` is no opening (row 18). The data text's
+# payload ends `16 16 16 10`, its check byte is `FD`, and the `FE` between becomes `02`: that is an opening, and the
+# `FF` behind it no picture code (row 13)
+critical = with_check(data(QUALITY, 1, QUALITY_LOW[:96] + CONTROL[:4]), FD)
+of_quality = [start(QUALITY, {4: FD}), critical, end(QUALITY)]
+altered_piece(of_quality, {0: (3, 0x02), 1: (103, 0x02), 2: (34, FE)}, 18, 16, 13, 16)
+altered_piece(of_quality, {0: (7, 0x00), 1: (3, 0x7F), 2: (3, 0x05)}, 20, 16, 16)
+altered_piece(of_quality, {1: (103, 0x02)}, 1, 19, 13, 16)  # the start text whole
+
+# Intensity, all twelve texts. Data text 3 has a start block's bytes behind its kind, and no `FE` behind these; data
+# text 6 ends as the quality text above
+critical_payload = INTENSITY_PAYLOAD[:]
+critical_payload[4000:4029] = start(INTENSITY, clock=9982)[8:37]
+critical_payload[11_996:12_000] = CONTROL[:4]
+of_intensity = [start(INTENSITY), *(data(INTENSITY, k, critical_payload) for k in range(1, 11)), end(INTENSITY)]
+of_intensity[6] = with_check(of_intensity[6], FD)
+altered_piece(of_intensity, {
+    0: (7, 0x7E),  # the clock: row 20
+    1: (1, 0xF1),  # another picture: row 16, for no part is open
+    2: (-3, 0x10),  # the third `16`: no opening
+    3: (2, 0x10),  # a start kind: row 19 behind 32 bytes
+    4: (2, 0x15),  # the next kind: row 16
+    5: (900, 0xEE),  # payload: row 16, at the kind
+    6: (2003, 0x02),  # the `FE`: row 16 at the kind, row 13 behind the opening
+    7: (2004, of_intensity[7][-2] ^ FE),  # the check byte: row 16, at the kind
+    8: (2005, 0x16),  # the `FF`: row 16, at the kind
+    9: (0, 0xFF),  # the `FD`: no opening
+    10: (1, 0x00),  # no picture: row 13
+    11: (2, 0x1A),  # the kind of data text 10: row 16
+}, 20, 16, 19, 16, 16, 16, 13, 16, 16, 13, 16)
+# The start text whole, and data text 1: the `FF` of data text 2 (row 21), and a mode in the end text
+altered_piece(of_intensity, {2: (2005, 0x00), 11: (3, 0x10)}, 1, 2, 21, *(16,) * 9)
+
+# Outside the limits. Two bytes of one text: clock 9,982 and its check byte; two payload bytes, both by 1; a bit
+# without meaning and its check byte. Undamaged parts have come of these, and are complete
+two_altered = bytearray(SAMPLE_START)
+two_altered[5 + 7], two_altered[5 + 33] = 0x7E, 0x4E
+piece(two_altered + SAMPLE_END, 1, 3)
+two_altered = bytearray(of_quality[1])
+two_altered[5 + 3] ^= 1
+two_altered[5 + 4] ^= 1
+piece(of_quality[0] + two_altered + of_quality[2], 1, 2, 3)
+two_altered = bytearray(of_top[2])
+two_altered[5 + 3] ^= 0x80
+two_altered[5 + 33] ^= 0x80
+piece(of_top[0] + of_top[1] + two_altered, 1, 2, 3)
+# One altered to `FD`, as above, and one in each data text before it: complete is true all the same. The start text
+# has another clock (row 20), the others no part open (row 16), and the `FD` falls between texts
+ending_so = [INTENSITY_BEGUN, *(data(INTENSITY, k, ending) for k in range(1, 10)), last, end(INTENSITY)]
+come = [bytearray(made) for made in ending_so]
+for made in come[:10]:
+    made[5 + 7] ^= 1  # the clock, or payload
+come[10][-35] = FD
+piece(b"".join(come), 20, *(16,) * 10, 1, 3)
+# The same byte altered to `FC` instead, which is level 15 (row 18)
+altered_piece(ending_so, {10: (2003 - 32, 0xFC)}, 1, *(2,) * 9, 18, 16)
+# At last again a text that never ends
+piece(start(INTENSITY) + one + two[:1000], 1, 2)
+
 
 STREAM = b"".join(data for data, _ in PIECES)
 
@@ -436,7 +544,7 @@ def check_pieces(lines):
         assert tuple(got) == answers, f"piece {number}: answers {answers} by hand, {got} by the model"
     assert not rest
     assert {answer for _, answer in lines} == {1, 2, 3, *range(11, 23)}
-    assert len(STREAM) < 200_000
+    assert len(STREAM) < 300_000
 
 
 if __name__ == "__main__":

@@ -312,14 +312,19 @@ void draft_part(struct numbers *n, const struct habits *habits, struct draft *dr
     write_texts(n, draft);
 }
 
-void draft_quality(struct numbers *n, const struct habits *habits, struct draft *draft)
+void draft_sort(struct numbers *n, const struct habits *habits, int part, bool no_echo, struct draft *draft)
 {
-    draft->part = QUALITY;
-    draft->no_echo = idle_no_echo(n);
-    draft->header.no_echo = draft->no_echo;
+    draft->part = part;
+    draft->no_echo = no_echo;
+    draft->header.no_echo = no_echo;
     some_header(n, habits, draft);
     some_payload(n, draft);
     write_texts(n, draft);
+}
+
+void draft_quality(struct numbers *n, const struct habits *habits, struct draft *draft)
+{
+    draft_sort(n, habits, QUALITY, idle_no_echo(n), draft);
 }
 
 void draft_like(struct numbers *n, const struct habits *habits, const struct draft *model,

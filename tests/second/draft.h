@@ -42,6 +42,10 @@ void mend_check(struct text *text);
 void draft_part(struct numbers *n, const struct habits *habits, struct draft *draft);
 void draft_quality(struct numbers *n, const struct habits *habits, struct draft *draft);
 
+/* A part of this sort.  NO ECHO may be set in quality too, where it has no
+   effect. */
+void draft_sort(struct numbers *n, const struct habits *habits, int part, bool no_echo, struct draft *draft);
+
 /* A second part of the same kind and picture code, often of the same radars. */
 void draft_like(struct numbers *n, const struct habits *habits, const struct draft *model,
                 struct draft *draft);

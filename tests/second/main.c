@@ -2,6 +2,9 @@
 
      second generate SEED LENGTH         a stream of LENGTH bytes
      second generate-marks SEED LENGTH   numbers of marks, and a stream for them
+     second generate-altered SEED COUNT  so many parts altered by Request 113, each
+                                         a record, with others between them
+     second try-altered SEED COUNT       the like, each alone tried on this model
      second answers [MARKS]              01's listening program
      second totals [MARKS]               how many bytes had each answer
      second traffic [MARKS]              answers, and what is held after answer 3
@@ -11,11 +14,12 @@
      second left [MARKS]                 bytes left before and after each answer
      second marks                        receivers with the marks that the input gives
      second samples                      01's sample traffic tried on this model, what
-                                         bytes left means, and marks
+                                         bytes left means, marks, and altered parts
 
-   All but generate, generate-marks and samples read standard input to its end.
+   All but those with a SEED, and samples, read standard input to its end.
    MARKS is the number that a fresh receiver is made from, in decimal; where it
    is not given, all twenty are marked. */
+#include "altered_traffic.h"
 #include "bought.h"
 #include "bytes.h"
 #include "hostile.h"
@@ -202,6 +206,7 @@ static void print_left(uint32_t marks)
 static int usage(void)
 {
     fprintf(stderr, "usage: second generate | generate-marks SEED LENGTH\n"
+                    "       second generate-altered | try-altered SEED COUNT\n"
                     "       second answers | totals | traffic | resend | parts | left [MARKS]  < stream\n"
                     "       second marks  < numbers and stream\n"
                     "       second samples\n");
@@ -239,6 +244,22 @@ static int write_marks(const char *seed, const char *length)
     struct bytes out = {0};
     size_t head = generate_marks(number, (size_t)count, &out);
     fwrite(out.data, 1, head + (size_t)count, stdout);
+    free_bytes(&out);
+    return 0;
+}
+
+/* All records, or the trial of such parts. */
+static int write_altered(const char *name, const char *seed, const char *parts)
+{
+    unsigned long long number, count;
+    if (!read_number(seed, UINT64_MAX, &number) || !read_number(parts, SIZE_MAX, &count))
+        return usage();
+    if (strcmp(name, "try-altered") == 0)
+        return try_altered(number, (size_t)count) ? 0 : 1;
+    struct bytes out = {0};
+    generate_altered(number, (size_t)count, &out);
+    if (out.length > 0)
+        fwrite(out.data, 1, out.length, stdout);
     free_bytes(&out);
     return 0;
 }
@@ -282,6 +303,8 @@ static int run(int argc, char **argv)
         return write_stream(argv[2], argv[3]);
     if (strcmp(name, "generate-marks") == 0 && argc == 4)
         return write_marks(argv[2], argv[3]);
+    if ((strcmp(name, "generate-altered") == 0 || strcmp(name, "try-altered") == 0) && argc == 4)
+        return write_altered(name, argv[2], argv[3]);
     if (strcmp(name, "samples") == 0 && argc == 2)
         return run_samples();
     if (strcmp(name, "marks") == 0 && argc == 2)

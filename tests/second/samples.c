@@ -1,5 +1,6 @@
 #include "samples.h"
 
+#include "altered_samples.h"
 #include "bytes.h"
 #include "countdown.h"
 #include "marks_samples.h"
@@ -374,6 +375,7 @@ int run_samples(void)
     try_left_at_opening();
     try_countdown(expect);
     try_marks(expect);
+    try_alterations(expect);
     if (wrong_count == 0)
         printf("samples: %d right\n", right_count);
     return wrong_count == 0 ? 0 : 1;

@@ -2,6 +2,8 @@
 
 -- Demand 3; and complete comes at a part's last byte and not before
 pub use Rattle.receiver_spec.proofs.Theorem.{demand-3, held-then, never-before, every-marked, answers-long, after-last, marks-after}
+-- At most one byte altered in each text of a part: as a relation and by lists of alterations the same
+pub use Rattle.receiver_spec.proofs.ListsOfAlterations.{alterations-claim}
 -- The marks: what they come to, and the handy form
 pub use Rattle.receiver_spec.proofs.MarkLaws.{marks-claim, marked-listed, unlisted-unmarked, all-marked, marked-at, among-count, from-marks}
 -- Lists of calls are runs of steps, and calls on a sound state and grid (the fresh ones, and whatever steps lead to) are not refused

@@ -10,6 +10,8 @@ pub mod WayBack
 pub mod Completing
 pub mod History
 pub mod Altered
+-- texts altered by a list
+pub mod ListsOfAlterations
 -- 01's receiver is such a machine, and what it takes is what 01 calls undamaged
 pub mod Instance
 pub mod BlockRules

@@ -2,11 +2,11 @@
 -- part, due text, the way back) speaks of this machine; 01's receiver is one, as Instance proves. Assumes nothing.
 use mathlib.Core.Path.{_≡_}
 use mathlib.Core.Bool.{Bool, true, false, cond, not}
-use mathlib.Core.List.{List, [], _∷_, _++_}
+use mathlib.Core.List.{List, [], _∷_, _++_, append-assoc}
 use Prim.Native.Nat.{ℕ, suc, _+_}
 use lib.Dec.{eqb, ltb}
 use lib.ListN.{length}
-use Rattle.text.specs.Text.{FD, EOR, TPAD, controlA, checkByte}
+use Rattle.text.specs.Text.{FD, EOR, TPAD, controlA, checkByte, textOf}
 use Rattle.receiver_spec.specs.Seen.{push, endsOpening, dueByte}
 use Rattle.receiver_spec.specs.Receiver.{_⊕_, BEGUN, TAKEN, COMPLETE}
 
@@ -153,6 +153,11 @@ module _ (R : Rules) where
   abbrev pub text : List ℕ → List ℕ
   text b = most b ++ (TPAD ∷ [])
 
+  -- it is what the definitions call a text
+  pub text-same : (b : List ℕ) → text b ≡ textOf b
+  unfolding most textOf
+  text-same b = simp append-assoc
+
   -- an open part, which grows by a text; and a whole part, with what is held after it
   pub data Open : List ℕ → ℕ → ℕ → Held → Type 0 where
     begun : {q k : ℕ} {xs : List ℕ} {c : Held} → isPicture q ≡ true → isStart k ≡ true → 3 + length xs ≡ long k → BlockContents k (begin q blank) 3 xs c
@@ -163,3 +168,11 @@ module _ (R : Rules) where
   pub data Whole : List ℕ → Held → Type 0 where
     whole : {ys : List ℕ} {p d k : ℕ} {xs : List ℕ} {c e : Held} → Open ys p d c → isPicture (pictureOf c) ≡ true → k ≡ dueKind p d → isKind k ≡ true
         → isStart k ≡ false → isEnd k ≡ true → 3 + length xs ≡ long k → BlockContents k c 3 xs e → closes e ≡ true → Whole (ys ++ text (block (pictureOf c) k xs)) e
+
+  -- the blocks of an open part, and of a whole one, in order
+  unfoldable pub openBlocks : {ys : List ℕ} {p d : ℕ} {c : Held} → Open ys p d c → List (List ℕ)
+  openBlocks (begun {q} {k} {xs} hq hk l r) = block q k xs ∷ []
+  openBlocks (more {k} {xs} {c} o hq hk g n m l r) = openBlocks o ++ (block (pictureOf c) k xs ∷ [])
+
+  unfoldable pub wholeBlocks : {ys : List ℕ} {c : Held} → Whole ys c → List (List ℕ)
+  wholeBlocks (whole {k} {xs} {c} o hq hk g n m l r z) = openBlocks o ++ (block (pictureOf c) k xs ∷ [])

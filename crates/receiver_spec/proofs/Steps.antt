@@ -63,7 +63,7 @@ module _ (R : Rules) where
     -- what a start text comes to does not depend on what was held before
     pub begin-any : (k q : ℕ) (a b d : Held) (xs : List ℕ) → isStart k ≡ true → BlockContents R k (begin q a) 3 xs d
         → (e : Held) × BlockContents R k (begin q b) 3 xs e × (settle d ≡ settle e) × (firstDue k d ≡ firstDue k e)
-    -- for one altered byte: where `FD` and `FE` may stand in a block, and that a start block is the shortest
+    -- for altered bytes: where `FD` and `FE` may stand in a block, and that a start block is the shortest
     pub tpad-picture : isPicture TPAD ≡ false
     pub syn-picture : isPicture SYN ≡ false
     pub fd-places : (k : ℕ) (c e : Held) (xs : List ℕ) → isKind k ≡ true → BlockContents R k c 3 xs e

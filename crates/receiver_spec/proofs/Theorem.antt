@@ -20,6 +20,7 @@ use Rattle.general_laws.proofs.Computed.{tabled}
 use Rattle.general_laws.proofs.Lists.{at-least-one}
 use Rattle.text_laws.proofs.Parts.{start-byte}
 use Rattle.text_laws.proofs.Blocks.{StartRules, start-rules, part-rules, split-3}
+use Rattle.receiver_spec.specs.Alterations.{AlteredTexts, blocksOf}
 use Rattle.receiver_spec.specs.Seen.{push}
 use Rattle.receiver_spec.specs.Marks.{isMarked, areMarks, allMarks, marksFrom}
 use Rattle.receiver_spec.specs.State.{State, fresh, dropped, emptyGrid}
@@ -28,16 +29,17 @@ use Rattle.receiver_spec.specs.Calls.{Reply, quiet, partBegun, textTaken
 use Rattle.receiver_spec.specs.Demand3.{IsAnswer, CallMade, Marked, Unmarked, partAnswers, partUnmarked, EndsUndamaged, WayBack, PartUnmarked, Demand3}
 use Rattle.receiver_spec.proofs.MarkLaws.{all-marked}
 use Rattle.receiver_spec.proofs.Opening.{only-FD, pushes}
-use Rattle.receiver_spec.proofs.Machine.{Rules, Machine, Out, mk, lost, move, run, new, BlockContents, block, most, text, Whole, whole}
+use Rattle.receiver_spec.proofs.Machine.{Rules, Machine, Out, mk, lost, move, run, new, BlockContents, block, most, text, Whole, whole, text-same}
 use Rattle.receiver_spec.proofs.Steps.{run-append}
 use Rattle.receiver_spec.proofs.WayBack.{start-run, way-back}
 use Rattle.receiver_spec.proofs.Completing.{part-open}
 use Rattle.receiver_spec.proofs.History.{snoc-inj, complete-only, complete-if}
 use Rattle.receiver_spec.proofs.Altered.{idle-move, plain, altered-never}
+use Rattle.receiver_spec.proofs.ListsOfAlterations.{alterations-claim}
 use Rattle.receiver_spec.proofs.Instance.{Held, held, radar, machine, out, step-is-move, step-marks, radar-laws}
 use Rattle.text_laws.proofs.KindTable.{start-block-length}
 use Rattle.receiver_spec.proofs.BlockRules.{start-taken}
-use Rattle.receiver_spec.proofs.WholeParts.{text-same, heldOf, whole-undamaged, undamaged-whole}
+use Rattle.receiver_spec.proofs.WholeParts.{heldOf, whole-undamaged, undamaged-whole, part-blocks}
 use Rattle.receiver_spec.proofs.PartAnswers.{Says, said-answers, says-run, part-said}
 use Rattle.receiver_spec.proofs.Unmarked.{Refused, part-refused, unmarked-other}
 use Rattle.receiver_spec.proofs.Answers.{step-told, three-complete}
@@ -171,7 +173,7 @@ module _ (asked : ℕ) where
 
     text-is : t ≡ front ++ (TPAD ∷ [])
     unfolding front
-    text-is = u .framed ∙ ap textOf split ∙ sym (text-same marks (block R q k xs))
+    text-is = u .framed ∙ ap textOf split ∙ sym (text-same R (block R q k xs))
 
     long : length xs ≡ 29
     long = omega (arith, length-drop 3 b, rules .long)
@@ -330,15 +332,23 @@ module _ (asked : ℕ) where
         absurd (omega arith))
 
     -- where a byte is answered 3, a receiver with all twenty marks would answer 3 too; and to an altered part it does not
-    never-complete : (part : List ℕ) (v : ℕ) → UndamagedPart part → v ≢ FD → AlteredTo v part (received asked calls .taken) → (i : ℕ) → received asked calls .said ! i ≢ 3
-    never-complete part v u n a i e =
+    never-complete : (part : List ℕ) (u : UndamagedPart part) → AlteredTexts (blocksOf (u .part)) (received asked calls .taken) → received asked calls .taken ≢ part → (i : ℕ) → received asked calls .said ! i ≢ 3
+    never-complete part u a some i e =
         let l = answered-within i e in
         let bytes = received asked calls .taken in
         let split = split-at bytes i 0 l in
         let at : length (take i bytes) ≡ i = length-take-le i bytes (omega arith) in
         let ends = completed (take i bytes) (bytes ! i) (drop (suc i) bytes) split .0 (ap (λ j. received asked calls .said ! j) at ∙ e) in
-        altered-never (radar allMarks) (radar-laws allMarks) n (undamaged-whole allMarks u (all-whole u)) a (take i bytes) (bytes ! i) (drop (suc i) bytes) split
+        altered-never (radar allMarks) (radar-laws allMarks) (undamaged-whole allMarks u (all-whole u)) (subst (λ t. AlteredTexts t bytes) (sym (part-blocks allMarks u (all-whole u))) a) some
+        (take i bytes) (bytes ! i) (drop (suc i) bytes) split
         (complete-if (radar allMarks) (radar-laws allMarks) (take i bytes) (bytes ! i) (heldOf (ends .whole .part)) (ends .before, ends .part, ends .split, undamaged-whole allMarks (ends .whole) (all-whole (ends .whole))) .0)
+
+    -- one altered byte is a case of it
+    one-never : (part : List ℕ) (v : ℕ) → UndamagedPart part → v ≢ FD → AlteredTo v part (received asked calls .taken) → (i : ℕ) → received asked calls .said ! i ≢ 3
+    one-never part v u n a =
+        let bytes = received asked calls .taken in
+        let (texts, some) = alterations-claim (u .part) .oneInAll v bytes n (subst (λ t. AlteredTo v t bytes) (u .framed) a) in
+        never-complete part u texts (λ e. some (e ∙ u .framed))
 
     -- a part whose picture is unmarked
     module _ (before part rest : List ℕ) (u : UndamagedPart part) (hm : Unmarked asked (u .part .start)) (e : received asked calls .taken ≡ before ++ (part ++ rest)) where
@@ -411,7 +421,7 @@ module _ (asked : ℕ) where
           let byte-is : bytes ! i ≡ opening ! j =
           ap₂ (λ (t : List ℕ) n. t ! n) (e ∙ ap (λ t. before ++ (t ++ rest)) (shown .split)) (sym far) ∙ getD-append-add before ((opening ++ shown .tail) ++ rest) j 0
           ∙ List·getD-append opening (shown .tail ++ rest) 0 j (ltb-true j 6 t) in
-          plain R (radar-laws marks) (run R (new R) (take i bytes)) (bytes ! i) (λ f. opening-other j (ltb-true j 6 t) (sym byte-is ∙ f)) .0
+          plain R (radar-laws marks) (run R (new R) (take i bytes)) (bytes ! i) (λ f. opening-other j (ltb-true j 6 t) (sym byte-is ∙ f))
           (sym (said-at (take i bytes) (bytes ! i) (drop (suc i) bytes) split) ∙ ap (λ n. received asked calls .said ! n) at ∙ three))
           (λ t. let n = length before + 6 in
           let far : n + (i - n) ≡ i = omega (arith, ltb-false (i - length before) 6 t, l) in
@@ -549,7 +559,8 @@ module _ (asked : ℕ) where
         partAnswered = λ earlier later e. part-answered earlier;
         completeTells = λ earlier r later e. complete-told earlier r;
         unmarked = λ earlier later e. unmarked-part earlier;
-        altered = never-complete calls;
+        altered = one-never calls;
+        severalAltered = never-complete calls;
       }
 
   -- a receiver that is given an undamaged part one by one with the byte call does not answer complete before its last byte, whatever its

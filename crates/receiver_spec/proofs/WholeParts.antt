@@ -22,14 +22,15 @@ use Rattle.general_laws.proofs.Tests.{by-test, never, and-split, and-join, by-i
 use Rattle.text_laws.proofs.Framing.{text-length}
 use Rattle.text_laws.proofs.KindTable.{text-back, data-is-kind, end-is-kind, data-block-length, few-texts, block-least, start-block-length, end-block-length, end-not-start}
 use Rattle.text_laws.proofs.Blocks.{start-rules, DataRules, data-rules, data-keeps, EndRules, end-rules, PartRules, part-rules, part-keeps, split-3}
-use Rattle.text_laws.proofs.Parts.{data-sized, payloads-length, payload-fits, order-split, zeros-long}
+use Rattle.text_laws.proofs.Parts.{data-sized, payloads-length, payload-fits, order-split, zeros-long, one-reading}
+use Rattle.receiver_spec.specs.Alterations.{blocksOf}
 use Rattle.receiver_spec.specs.Marks.{isMarked}
 use Rattle.receiver_spec.specs.State.{emptyGrid}
 use Rattle.receiver_spec.specs.Receiver.{BEGUN, TAKEN, COMPLETE, firstDue, nextDue, modeIsHighest}
 use Rattle.receiver_spec.specs.Calls.{spread}
 use Rattle.receiver_spec.specs.Demand3.{dataAnswers, partAnswers}
 use Rattle.receiver_spec.proofs.MarkLaws.{marked-listed}
-use Rattle.receiver_spec.proofs.Machine.{Rules, BlockContents, block, most, text, Open, begun, more, Whole, whole}
+use Rattle.receiver_spec.proofs.Machine.{Rules, BlockContents, block, text, Open, begun, more, Whole, whole, openBlocks, wholeBlocks, text-same}
 use Rattle.receiver_spec.proofs.Instance.{Held, held, radar}
 use Rattle.receiver_spec.proofs.BlockRules.{start-taken, data-taken, end-taken, data-only}
 
@@ -169,11 +170,6 @@ module _ (marks : ℕ) where
   abbrev R : Rules
   R = radar marks
 
-  -- a text is a text
-  pub text-same : (b : List ℕ) → text R b ≡ textOf b
-  unfolding most textOf
-  text-same b = simp append-assoc
-
   record Begun (ys : List ℕ) (p d : ℕ) (c : Held) : Type 0 where
     start : List ℕ
     datas : List (List ℕ)
@@ -201,7 +197,7 @@ module _ (marks : ℕ) where
         few = omega arith;
         due = first-due (partOf k) (c .header) ∙ ap (λ n. dueAfter (partOf k) n 0) (ap (λ (h : Header). h .noecho) header ∙ header-facts b .0);
         holds = ap₂ (λ h g. held h noModes g) header grid-none;
-        bytes = text-same b ∙ sym (append-nil (textOf b));
+        bytes = text-same R b ∙ sym (append-nil (textOf b));
       }
 
   begun-more : {ys : List ℕ} {p d k : ℕ} {xs : List ℕ} {c e : Held} → Begun ys p d c → isMarked marks (c .header .picture) ≡ true → k ≡ kindOf p d → isKind k ≡ true → isStartKind k ≡ false
@@ -216,7 +212,7 @@ module _ (marks : ℕ) where
         few = omega (arith, length-append (a .datas) (b ∷ []), missing .1);
         due = ap (nextDue p) number ∙ next-due p echo m (missing .1) ∙ ap (dueAfter p echo) (sym more-long);
         holds = enters ∙ ap₂ (λ (x : Held) j. held (x .header) (x .modes) (sets (x .grid) j xs)) (a .holds) place ∙ ap (λ t. held (headerOf (a .start)) noModes t) (grid-more (a .datas) b room);
-        bytes = ap₂ (λ x y. x ++ y) (a .bytes) (text-same b) ∙ append-assoc (textOf (a .start)) (textsOf (a .datas)) (textOf b) ∙ ap (λ t. textOf (a .start) ++ t) (sym (texts-snoc (a .datas) b));
+        bytes = ap₂ (λ x y. x ++ y) (a .bytes) (text-same R b) ∙ append-assoc (textOf (a .start)) (textsOf (a .datas)) (textOf b) ∙ ap (λ t. textOf (a .start) ++ t) (sym (texts-snoc (a .datas) b));
       }
     where
       echo : Bool
@@ -311,7 +307,7 @@ module _ (marks : ℕ) where
                 endKind = hk ∙ ap₂ kindOf (sym (a .part)) (due-end p d (length (a .datas)) echo (a .due) (a .few) known ends .0);
                 mode = modes;
               });
-          framed = ap₂ (λ x y. x ++ y) (a .bytes) (text-same b) ∙ append-assoc (textOf (a .start)) (textsOf (a .datas)) (textOf b) ∙ sym (bytes-of part);
+          framed = ap₂ (λ x y. x ++ y) (a .bytes) (text-same R b) ∙ append-assoc (textOf (a .start)) (textsOf (a .datas)) (textOf b) ∙ sym (bytes-of part);
         },
         taken .1 ∙ ap (λ t. held (headerOf (a .start)) (modesOf b) t) (sym (grid-of part)),
         subst (λ q. isMarked marks q ≡ true) picture hq,
@@ -374,7 +370,7 @@ module _ (marks : ℕ) where
       let long : length xs ≡ 29 = omega (arith, length-drop 3 start, r .long) in
       let h = held (headerOf start) noModes emptyGrid in
       let contents = start-taken marks q k (R .blank) h xs (r .picture) (r .kind) long .1 (subst (λ t. isStartBlock t ≡ true) whole ok, ap (λ t. held (headerOf t) noModes emptyGrid) whole) in
-      cast {vs = 1 ∷ []} (text-same (block R q k xs) ∙ ap textOf (sym whole)) refl
+      cast {vs = 1 ∷ []} (text-same R (block R q k xs) ∙ ap textOf (sym whole)) refl
       (first-due (startPart start) (headerOf start) ∙ ap (λ n. dueAfter (startPart start) n 0) (header-facts start .0))
       (ap (λ g. held (headerOf start) noModes g) grid-none) refl
       (record { opens = begun hm (r .kind) (omega (arith, long, start-block-length k (r .kind))) contents; says = refl {a = 1 ∷ []} })
@@ -468,7 +464,7 @@ module _ (marks : ℕ) where
         due = one .2 ∙ ap (kindOf p) (sym (rw (lt-ltb m (dataTexts p echo) missing)))
 
         bytes : text R (block R (h .picture) k (payloadOf b)) ≡ textOf b
-        bytes = ap (λ x. text R (block R x k (payloadOf b))) hq ∙ text-same (block R q k (payloadOf b)) ∙ ap textOf (sym (whole three))
+        bytes = ap (λ x. text R (block R x k (payloadOf b))) hq ∙ text-same R (block R q k (payloadOf b)) ∙ ap textOf (sym (whole three))
 
         again : Open R (ys ++ text R (block R (h .picture) k (payloadOf b))) p (nextDue p (textNumber k)) (held h noModes (gridWith (datas ++ (b ∷ []))))
         again = more {xs = payloadOf b} (o .opens) (subst (λ x. isMarked marks x ≡ true) (sym hq) hm) due (data-is-kind k (r .kind)) (data-only k (r .kind) .0) (data-only k (r .kind) .1) (omega (arith, length-drop 3 b, r .long, three)) contents
@@ -535,7 +531,7 @@ module _ (marks : ℕ) where
           )
 
       bytes : text R (block R (headerOf (p .start) .picture) k xs) ≡ textOf (p .end)
-      bytes = ap (λ x. text R (block R x k xs)) picture ∙ text-same (block R q k xs) ∙ ap textOf (sym split)
+      bytes = ap (λ x. text R (block R x k xs)) picture ∙ text-same R (block R q k xs) ∙ ap textOf (sym split)
 
       ended : Whole R ((textOf (p .start) ++ textsOf (p .datas)) ++ text R (block R (headerOf (p .start) .picture) k xs)) (heldOf p)
       ended =
@@ -545,3 +541,17 @@ module _ (marks : ℕ) where
 
   pub undamaged-whole : {zs : List ℕ} (u : UndamagedPart zs) → isMarked marks (u .part .start ! 1) ≡ true → Whole R zs (heldOf (u .part))
   undamaged-whole u hm = undamaged-said u hm .is-whole
+
+  -- its blocks are the part's
+
+  open-blocks : {ys : List ℕ} {p d : ℕ} {c : Held} (o : Open R ys p d c) → openBlocks R o ≡ open-begun o .start ∷ open-begun o .datas
+  unfolding openBlocks open-begun begun-start begun-more
+  open-blocks (begun hq hk l r) = refl
+  open-blocks (more {k} {xs} {c} o hq hk g n v l r) = ap (λ t. t ++ (block R (c .header .picture) k xs ∷ [])) (open-blocks o)
+
+  whole-blocks : {zs : List ℕ} {c : Held} (w : Whole R zs c) → wholeBlocks R w ≡ blocksOf (whole-undamaged w .0 .part)
+  unfolding wholeBlocks whole-undamaged
+  whole-blocks (whole {k} {xs} {c} o hq hk g n v l r z) = ap (λ t. t ++ (block R (c .header .picture) k xs ∷ [])) (open-blocks o)
+
+  pub part-blocks : {zs : List ℕ} (u : UndamagedPart zs) (hm : isMarked marks (u .part .start ! 1) ≡ true) → wholeBlocks R (undamaged-whole u hm) ≡ blocksOf (u .part)
+  part-blocks {zs} u hm = whole-blocks (undamaged-whole u hm) ∙ ap blocksOf (one-reading zs (whole-undamaged (undamaged-whole u hm) .0) u)

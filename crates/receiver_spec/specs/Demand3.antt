@@ -8,6 +8,7 @@ use lib.ListN.{length, take, drop}
 use Rattle.general_laws.specs.Bytes.{_!_, isIn}
 use Rattle.text.specs.Text.{FD, textOf}
 use Rattle.text.specs.Part.{Part, startPart, StartText, UndamagedPart, AlteredTo, zeros, partHeader, partModes, gridOf}
+use Rattle.receiver_spec.specs.Alterations.{AlteredTexts, blocksOf}
 use Rattle.receiver_spec.specs.Marks.{isMarked, marksFrom}
 use Rattle.receiver_spec.specs.State.{State, dropped, emptyGrid}
 use Rattle.receiver_spec.specs.Receiver.{step}
@@ -157,3 +158,7 @@ pub record Demand3 (n : ℕ) (calls : List Call) : Type 0 where
       → received n earlier .taken ≡ before ++ (part ++ rest) → PartUnmarked n (received n earlier) before part rest u
   -- One altered byte, to any value but `FD`, never yields complete, be the picture marked or not
   pub altered : (part : List ℕ) (v : ℕ) → UndamagedPart part → v ≢ FD → AlteredTo v part (received n calls .taken) → (i : ℕ) → received n calls .said ! i ≢ 3
+  -- Nor do several: at least one in all, at most one in each of the part's texts, and none to `FD`. Request 113. One in all is a
+  -- case of it (`AlterationsClaim.oneInAll`)
+  pub severalAltered : (part : List ℕ) (u : UndamagedPart part) → AlteredTexts (blocksOf (u .part)) (received n calls .taken) → received n calls .taken ≢ part
+      → (i : ℕ) → received n calls .said ! i ≢ 3

@@ -5,4 +5,5 @@ pub mod State
 pub mod Contents
 pub mod Receiver
 pub mod Calls
+pub mod Alterations
 pub mod Demand3

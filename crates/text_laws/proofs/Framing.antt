@@ -2,10 +2,11 @@
 use mathlib.Core.Path.{_≡_, refl, sym, ap, ap₂, _∙_, subst}
 use mathlib.Core.Logic.{_⊎_, inl, inr, _≢_}
 use mathlib.Core.List.{List, [], _∷_, _++_, head-eq-of-cons-eq, tail-eq-of-cons-eq}
-use Prim.Native.Nat.{ℕ, suc, _+_, _-_}
+use Prim.Native.Nat.{ℕ, zero, suc, _+_, _-_, _<_}
 use native.Mathlib.Omega.{arith}
 use lib.ListN.{length, take, drop, length-append}
 use lib.Seq.{take-at}
+use Rattle.general_laws.specs.Bytes.{_!_}
 use Rattle.text.specs.Text.{EOR, controlA, controlB, xorAll, checkByte, textOf}
 use Rattle.text.specs.Part.{blockIn, AlteredTo, here, there, UndamagedText}
 use Rattle.general_laws.proofs.Bits.{xor-cancel-left, xor-cancel-right}
@@ -41,6 +42,16 @@ altered-length (there a) = ap suc (altered-length a)
 pub altered-other : {v : ℕ} {xs ys : List ℕ} → AlteredTo v xs ys → xs ≢ ys
 altered-other (here n) e = n (head-eq-of-cons-eq e)
 altered-other (there a) e = altered-other a (tail-eq-of-cons-eq e)
+
+-- by the place of the altered byte, both ways
+pub altered-at : {v : ℕ} (xs : List ℕ) (i : ℕ) → i < length xs → xs ! i ≢ v → AlteredTo v xs (take i xs ++ (v ∷ drop (suc i) xs))
+altered-at [] i l n = absurd (omega arith)
+altered-at (x ∷ xs) zero l n = here n
+altered-at (x ∷ xs) (suc i) l n = there (altered-at xs i (omega arith) n)
+
+pub altered-place : {v : ℕ} {xs ys : List ℕ} → AlteredTo v xs ys → (i : ℕ) × (i < length xs) × (xs ! i ≢ v) × (ys ≡ take i xs ++ (v ∷ drop (suc i) xs))
+altered-place (here n) = (zero, omega arith, n, refl)
+altered-place (there {x} a) = let (i, l, n, e) = altered-place a in (suc i, omega arith, n, ap (λ t. x ∷ t) e)
 
 -- the altered byte lies in the first list or in the second
 pub altered-parts : {v : ℕ} (xs : List ℕ) {ys zs : List ℕ} → AlteredTo v (xs ++ ys) zs
