@@ -1,7 +1,7 @@
 /* The receiver of 01-scope.md, section "The receiver", written plainly in C from that paper, to be
  * measured against. Rows are those of 01's table, and what stands in quotes is 01's; for the quality
- * bits it is that of request #107, which put a new sheet in place of 01's, and marks and row 51 are
- * those of Request 101.
+ * bits it is that of request #107, which put a new sheet in place of 01's, marks and row 51 are those
+ * of Request 101, and the minute and the digits that wait for it those of Request 111.
  *
  *   byte_call           one byte, the state by pointer
  *   slice_call          a slice, byte by byte, up to the first answer other than 0
@@ -20,6 +20,7 @@
 enum { GRID = 20000, EDGE_BLOCK = 32 };
 enum { NONE = 0, INTENSITY = 1, TOP = 2, QUALITY = 3 };
 enum { ALL_MARKS = 0xFFFFF };
+enum { DIGITS = 12 };  /* YYYYMMDDhhmm */
 enum { START = 0, END = 11 };  /* a text's number within its part; data texts are 1 to 10 */
 
 /* "The opening is the five control bytes and the `FD`." */
@@ -27,11 +28,11 @@ enum { START = 0, END = 11 };  /* a text's number within its part; data texts ar
 #define FIVE_BYTES 0xFFFFFFFFFFu
 
 struct header {
+    int64_t minute;     /* "the signed count of minutes from 1 January 2000, 00:00" */
     uint16_t clock;
     uint8_t picture;
     uint8_t no_echo;
     uint8_t mode;
-    uint8_t time[12];   /* the digits YYYYMMDDhhmm */
     uint8_t radars[8];
 };
 
@@ -45,6 +46,7 @@ struct receiver {
     uint8_t part;       /* "the part open or none" */
     uint8_t due;        /* "0 with no part open, 1 to 10 for data .. and 11 for the end" */
     uint8_t check;      /* "the running check byte (0 at place 0)" */
+    uint8_t digits[DIGITS];  /* "wait in the state until byte 23 and are 0 from then on" */
     struct header header;
     uint8_t modes[8];
 };
@@ -123,9 +125,12 @@ static inline int is_payload(int part, uint8_t b)
     }
 }
 
-/* "a Gregorian date (years 0000 to 9999), hour 00 to 23, minute 00 to 59" */
-static int is_time(const uint8_t *d)
+/* "a Gregorian date (years 0000 to 9999), hour 00 to 23, minute 00 to 59"; its minute, "or invalid",
+ * which is 0. The days are those of years that begin in March, the leap day being a year's last; they
+ * are counted 400 years late, so that no number is below 0. */
+static int minute_of(const uint8_t *d, int64_t *count)
 {
+    enum { DAYS_TO_2000 = 6 * 146097 - 60 };  /* 1 March 2000 is 2,400 years from the first day counted */
     static const uint8_t days[] = { 31, 28, 31, 30, 31, 30, 31, 31, 30, 31, 30, 31 };
     int year = d[0] * 1000 + d[1] * 100 + d[2] * 10 + d[3];
     int month = d[4] * 10 + d[5], day = d[6] * 10 + d[7];
@@ -133,7 +138,12 @@ static int is_time(const uint8_t *d)
     int leap = (year % 4 == 0 && year % 100 != 0) || year % 400 == 0;
     if (month < 1 || month > 12 || hour > 23 || minute > 59)
         return 0;
-    return day >= 1 && day <= days[month - 1] + (month == 2 && leap);
+    if (day < 1 || day > days[month - 1] + (month == 2 && leap))
+        return 0;
+    int m = month > 2 ? month - 3 : month + 9, y = year + 400 - (month <= 2);
+    int since = 365 * y + y / 4 - y / 100 + y / 400 + (153 * m + 2) / 5 + day - 1;
+    *count = (int64_t)(since - DAYS_TO_2000) * 1440 + hour * 60 + minute;
+    return 1;
 }
 
 /* ---- "The receiver" */
@@ -231,8 +241,12 @@ static int start_byte(struct receiver *r, uint8_t b)
             return b == '.';
         if (b < '0' || b > '9')
             return 0;
-        h->time[i] = b - '0';
-        return place != 23 || is_time(h->time);
+        r->digits[i] = b - '0';
+        if (place != 23)
+            return 1;
+        int keeps = minute_of(r->digits, &h->minute);
+        memset(r->digits, 0, sizeof r->digits);
+        return keeps;
     }
     /* "one to eight radar codes, strictly rising, then `00`" */
     int i = place - 24;
@@ -420,12 +434,26 @@ struct taken slice_call_payload(struct receiver *r, uint8_t *restrict grid, cons
     return (struct taken){ len, 0 };
 }
 
+/* "a digit above 9, or one not 0 other than at places 9 to 23 of a start text" */
+static int digits_refused(const struct receiver *r)
+{
+    static const uint8_t none[DIGITS];
+    if (memcmp(r->digits, none, DIGITS) == 0)
+        return 0;
+    if (r->place < 9 || r->place > 23 || text_of_kind(r->kind) != START)
+        return 1;
+    for (int i = 0; i < DIGITS; i++)
+        if (r->digits[i] > 9)
+            return 1;
+    return 0;
+}
+
 /* Rows 1 and 2; else 0. The count seen and the check byte under way have no other value here. */
 int refusal(const struct receiver *r, size_t grid_len)
 {
     if (grid_len != GRID)
         return 1;
-    if (r->marks > ALL_MARKS)
+    if (r->marks > ALL_MARKS || digits_refused(r))
         return 2;
     if (r->part == NONE ? r->due != 0 : r->part > QUALITY || r->due == 0 || r->due > END)
         return 2;
@@ -454,10 +482,11 @@ int refusal(const struct receiver *r, size_t grid_len)
  * the state and the CRC-32 of the grid, and stops at a state that would be refused. The receiver has all
  * twenty marks, or those of the number that is given.
  *
- *     receiver refusals
+ *     receiver refusals [digits]
  *
  * reads states of eleven bytes (place in two, high first, kind, picture code, part, due text, check byte,
- * and marks in four, high first) and prints for each what refusal() says. tests/compare_c.py compares all with the model. */
+ * and marks in four, high first), or of 23 with the digits that wait behind these, and prints for each what
+ * refusal() says. tests/compare_c.py compares all with the model. */
 #ifdef LISTEN
 #include <stdio.h>
 #include <stdlib.h>
@@ -493,19 +522,21 @@ static void print_state(const struct receiver *r, const uint8_t *grid)
     const struct header *h = &r->header;
     printf(" %010llx %d %d %d %d %d %d", (unsigned long long)r->seen, r->place, r->kind, r->picture, r->part,
            r->due, r->check);
-    print_numbers(h->time, 12);
+    printf(" %lld", (long long)h->minute);
     print_numbers(h->radars, 8);
     printf(" %d %d %d %d", h->clock, h->picture, h->mode, h->no_echo);
     print_numbers(r->modes, 8);
     printf(" %u %u\n", r->marks, crc(grid, GRID));
 }
 
-static void print_refusals(const uint8_t *bytes, size_t len)
+static void print_refusals(const uint8_t *bytes, size_t len, int digits)
 {
-    for (; len >= 11; bytes += 11, len -= 11) {
+    size_t each = 11 + digits;
+    for (; len >= each; bytes += each, len -= each) {
         uint32_t marks = (uint32_t)bytes[7] << 24 | bytes[8] << 16 | bytes[9] << 8 | bytes[10];
         struct receiver r = { .place = bytes[0] << 8 | bytes[1], .kind = bytes[2], .picture = bytes[3],
                               .part = bytes[4], .due = bytes[5], .check = bytes[6], .marks = marks };
+        memcpy(r.digits, bytes + 11, digits);
         printf("%d\n", refusal(&r, GRID));
     }
 }
@@ -535,7 +566,7 @@ int main(int argc, char **argv)
             return 1;
     }
     if (strcmp(entry, "refusals") == 0) {
-        print_refusals(bytes, len);
+        print_refusals(bytes, len, argc > 2 && strcmp(argv[2], "digits") == 0 ? DIGITS : 0);
         len = 0;
     }
     make_crc_table();

@@ -25,7 +25,7 @@ SEED = 49
 # The n-th of a row of headers: pictures, clocks and minutes change, modes and radars stay
 def header(n, noecho):
     return texts.Header(
-        time=tuple(map(int, f"19990607{n // 60 % 24:02}{n % 60:02}")),
+        minute=texts.minute_of(tuple(map(int, f"19990607{n // 60 % 24:02}{n % 60:02}"))),
         radars=(0xA0, 0xA5, 0xB1, 0, 0, 0, 0, 0),
         clock=n * 300 % 16_384,
         picture=texts.PICTURES[n % 20],

@@ -39,9 +39,10 @@ def some_radars(rng):
     return (*chosen, *(0,) * (8 - len(chosen)))
 
 
-def some_time(rng):
-    return tuple(map(int, f"{rng.randint(0, 9999):04}{rng.randint(1, 12):02}{rng.randint(1, 28):02}"
-                          f"{rng.randint(0, 23):02}{rng.randint(0, 59):02}"))
+# Any minute of years 0000 to 9999, and more often than by chance their first, their last, and one around 2000
+def some_minute(rng):
+    first, last = -1_051_898_400, 4_207_593_599
+    return rng.choice((rng.randint(first, last), rng.randint(first, last), rng.randint(-1, 86_400), first, last))
 
 
 # All zeros, one value, all values, or what is left of the control bytes
@@ -57,7 +58,7 @@ def some_part(rng, sort=None):
     part, noecho = sort or rng.choices(SORTS, WEIGHTS)[0]
     radars = some_radars(rng)
     modes = [rng.randint(1, 3) if radar else 0 for radar in radars]
-    header = texts.Header(some_time(rng), radars, rng.randint(0, 16_383), rng.choice(PICTURES), max(modes), noecho)
+    header = texts.Header(some_minute(rng), radars, rng.randint(0, 16_383), rng.choice(PICTURES), max(modes), noecho)
     blocks = texts.split_part(texts.make_part(part, header, modes, bytes(some_payload(rng, part))))
     first, *rest, last = map(bytearray, blocks)
     if rng.random() < 0.5:

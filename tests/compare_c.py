@@ -2,13 +2,13 @@
 
     python3 tests/compare_c.py
 
-It builds the C file as a program (with $CC, else cc), gives it the stream of listen.py and hostile
-traffic made by tests/second with fixed seeds, and compares: the listening lines from the byte call and both slice
-calls, in slices of several lengths; the state and the grid after every call; and refusals 1 and 2 of
-made-up states. The receivers have all twenty marks, and on some streams each of several others (Request 101). It
-also holds the model's answer 3 against texts.py on the same streams: a part is complete exactly when the bytes taken
-end with an undamaged part of a marked picture, and is then kept as it was sent. Ends with an error at the first
-difference, and otherwise says what was compared.
+It builds the C file as a program (with $CC, else cc), gives it the stream of listen.py, hostile traffic
+made by tests/second with fixed seeds, and start texts with times by chance, and compares: the listening lines from
+the byte call and both slice calls, in slices of several lengths; the state but for the digits that wait, and the grid,
+after every call; and refusals 1 and 2 of made-up states, with digits too (Request 111). The receivers have all twenty
+marks, and on some streams each of several others (Request 101). It also holds the model's answer 3 against texts.py on
+the same streams: a part is complete exactly when the bytes taken end with an undamaged part of a marked picture, and is
+then kept as it was sent. Ends with an error at the first difference, and otherwise says what was compared.
 """
 
 import os
@@ -57,6 +57,25 @@ def likely_stream(seed, size):
     return bytes(out)
 
 
+# Start texts with times (Request 111): those of a minute by chance, such a time with one digit by chance, and any
+# digits
+def times_stream(seed, count):
+    rng = random.Random(seed)
+    first, last = -1_051_898_400, 4_207_593_599
+    edges = (first, last, -1, 0, 84_960, 86_399, -52_509_601, 52_680_960, -1_051_813_440)
+    out = bytearray()
+    for _ in range(count):
+        minute = rng.choice((rng.randint(first, last), rng.randint(first, last), rng.choice(edges)))
+        header = texts.Header(minute, (0xA5, *(0,) * 7), 9983, 0xCC, 1, True)
+        block = bytearray(texts.start_block(rng.choice(texts.PARTS), header))
+        places = [8 + i for i, letter in enumerate(texts.TIME_FORM) if letter != "."]
+        way = rng.randrange(8)
+        for place in places if way == 0 else [rng.choice(places)] if way < 4 else []:
+            block[place] = rng.choice(b"0123456789")
+        out += texts.make_text(bytes(block))
+    return bytes(out)
+
+
 # ---- The model's side
 
 # Has the picture its mark in a receiver that was made from this number?
@@ -95,7 +114,7 @@ def model_states(data, most, number):
         assert receiver.refusal() == 0
         header = receiver.header
         numbers = (receiver.place, receiver.kind, receiver.picture, receiver.part, receiver.due, receiver.check,
-                   *header.time, *header.radars, header.clock, header.picture, header.mode, int(header.noecho),
+                   header.minute, *header.radars, header.clock, header.picture, header.mode, int(header.noecho),
                    *receiver.modes, receiver.marks, zlib.crc32(receiver.grid))
         lines.append(f"{at} {answer} {receiver.seen.rjust(5, bytes(1)).hex()} {' '.join(map(str, numbers))}")
     return lines
@@ -151,11 +170,42 @@ def compare_refusals(program, count):
         receiver.check = rng.choice((0, 0, 255))
         # Marks beyond the twentieth are refused; a code under way need not be marked
         receiver.marks = rng.choice((0, 1, ALL_MARKS, ALL_MARKS, 699_050, ALL_MARKS + 1, 2**31 + 128, 2**32 - 1))
-        given += receiver.place.to_bytes(2, "big")
-        given += bytes([receiver.kind, receiver.picture, receiver.part, receiver.due, receiver.check])
-        given += receiver.marks.to_bytes(4, "big")
+        given += numbers_of(receiver)
         ours.append(str(receiver.refusal()))
     same("refusals", ours, c_lines(program, bytes(given), "refusals"))
+    return Counter(ours)
+
+
+# A made-up state as the C program reads it
+def numbers_of(receiver):
+    numbers = (receiver.kind, receiver.picture, receiver.part, receiver.due, receiver.check)
+    return receiver.place.to_bytes(2, "big") + bytes(numbers) + receiver.marks.to_bytes(4, "big")
+
+
+# The same with digits, in states that are possible without: Request 111, "a digit above 9, or one not 0 other than at
+# places 9 to 23 of a start text"
+def compare_digits(program, count):
+    rng = random.Random(111)
+    given, ours = bytearray(), []
+    for _ in range(count):
+        receiver = Receiver()
+        part = rng.choice(texts.PARTS)
+        text = rng.choice((texts.START, texts.START, texts.START, texts.START, 1, texts.END))
+        receiver.place = rng.choice((0, 1, 2, 3, 8, 8, 9, 9, 10, 16, 22, 23, 23, 24, 24, 25, 31, 34))
+        if receiver.place > 1:
+            receiver.picture = 0xCC
+        if receiver.place > 2:
+            receiver.kind = texts.kind_of(part, text)
+        if text != texts.START:
+            receiver.part, receiver.due = part, text
+        assert receiver.refusal() == 0
+        digits = [0] * 12
+        for _ in range(rng.choice((0, 1, 1, 1, 2, 12))):
+            digits[rng.randrange(12)] = rng.choice((0, 1, 9, 9, rng.randint(1, 9), 10, 255))
+        receiver.digits = tuple(digits)
+        given += numbers_of(receiver) + bytes(digits)
+        ours.append(str(receiver.refusal()))
+    same("refusals with digits", ours, c_lines(program, bytes(given), "refusals", "digits"))
     return Counter(ours)
 
 
@@ -187,20 +237,26 @@ def main():
         print(f"lines: {len(streams)} streams, {read} bytes, {told(answers)}")
         assert set(answers) == {1, 2, 3, *range(11, 23)}
 
-        answers, made = Counter(), 0
-        for seed in range(1, 8):
+        # Seven seeds, and more until every answer has come
+        answers, made, all_answers = Counter(), 0, {1, 2, 3, *range(11, 23), 51}
+        for seed in range(1, 31):
             numbers, data = marks_stream(second, seed, 25_000)
             for number in numbers:
                 compare_lines(program, f"seed {seed}, marks {number}", data, answers, number)
                 compare_states(program, f"seed {seed}, marks {number}", data[:3_000], 1, number)
                 made += 1
+            if seed >= 7 and set(answers) == all_answers:
+                break
         print(f"marks: {made} receivers, {told(answers)}")
-        assert set(answers) == {1, 2, 3, *range(11, 23), 51}
+        assert set(answers) == all_answers
 
         states = 0
         for name, data, lengths in [
             ("samples", STREAM, (7, 2003)),
             ("samples, from the midst", STREAM[48_000:58_000], (1,)),
+            ("samples, from the first minute on", STREAM[STREAM.index(b"0000.01.01.00.00"):][:9_000], (1,)),
+            *((f"times, seed {seed}", times_stream(seed, 2_000), (40,)) for seed in range(101, 104)),
+            ("times, seed 104", times_stream(104, 100), (1, 3)),
             *((f"hostile, seed {seed}", hostile_stream(second, seed, 5_000), (1, 3, 50)) for seed in range(101, 107)),
             *((f"likely bytes, seed {seed}", likely_stream(seed, 2_000), (1, 5)) for seed in range(101, 104)),
         ]:
@@ -208,8 +264,9 @@ def main():
                 compare_states(program, name, data, most)
                 states += 1
         print(f"states and grids after every call: {states} runs")
-        refused = compare_refusals(program, 20_000)
-        print("made-up states:", ", ".join(f"{refused[r]} with {r}" for r in sorted(refused)))
+        for name, compare in (("made-up states", compare_refusals), ("... with digits", compare_digits)):
+            refused = compare(program, 20_000)
+            print(f"{name}:", ", ".join(f"{refused[r]} with {r}" for r in sorted(refused)))
 
 
 if __name__ == "__main__":

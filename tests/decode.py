@@ -5,7 +5,8 @@
     python3 tests/decode.py > crates/decode/stdout
     python3 tests/decode.py --try target/bin/decode
 
-What a part has is what the model of 01's receiver with Request 101, tests/model/receiver.py, holds at answer 3.
+What a part has is what the model of 01's receiver with Requests 101 and 111, tests/model/receiver.py, holds at
+answer 3; its time is that of the minute in the header.
 The layout stands in crates/decode/src/main.rt. Names, and where levels begin, are tables of notice No. 49; the
 causes of quality are request #107's, by their bits. The stream is one after the other of the pieces below, which
 have every picture code, every radar, every value of quality and every answer.
@@ -33,7 +34,7 @@ from try_byte_call import altered
 from listen import (EIGHT_RADARS, INTENSITY_ANSWERS, QUALITY_BEGUN, QUALITY_HIGH, QUALITY_LOW, THREE_RADARS,
                             TOP_BEGUN, TOP_TAKEN, data, end, start, whole, with_extra)
 from receiver import SAMPLE_END, SAMPLE_START, Receiver, marks_of
-from texts import FE, INTENSITY, OPENING, PICTURES, QUALITY, RADARS, TOP, payload_length
+from texts import FE, INTENSITY, OPENING, PICTURES, QUALITY, RADARS, TOP, digits_of, payload_length
 
 # ---- The notice's tables
 
@@ -121,6 +122,20 @@ def radars(*codes):
     return (*codes, *(0,) * (8 - len(codes)))
 
 
+# ---- Times
+
+# Request 111. The first and the last minute of years 0000 to 9999 and those next to them; from both sides of 2000, of
+# leap days, and of the days that 1900 and 2100 have not; the last day of a year and the first; others with 9 at a place
+TIMES = ("000001010000", "000001010001", "999912312358", "999912312359", "199912312359", "200001010000",
+         "200001010001", "000002290000", "000003010000", "000012312359", "000101010000", "190002282359",
+         "190003010000", "199602292359", "200002282359", "200002290000", "200002292359", "200003010000",
+         "210002282359", "210003010000", "999602290000", "198708151215", "999906071210", "199909071210",
+         "199906091210", "199906071910", "199906071219")
+# No such time: no leap day, day and month 00, 30 February, 24:00, minute 60, 9 where it cannot be
+NO_TIMES = ("190002290000", "199902290000", "210002290000", "000000010000", "000001000000", "200002300000",
+            "999912312400", "999912312360", "199912312400", "999913312359", "199996071210", "199906971210",
+            "199906079210", "199906071290", "999999999999")
+
 # ---- The pieces, each with its answers
 
 # A piece is its bytes; its answers where its pictures are marked; and by the codes that are not, in rising order,
@@ -164,6 +179,9 @@ PIECES = [
     *(sound(no_echo(INTENSITY, picture=code, clock=100 + i), (1, 3), code) for i, code in enumerate(PICTURES)),
     *(sound(no_echo(TOP, (1 + i % 3,), mode=1 + i % 3, radars=radars(code)), (1, 3))
       for i, code in enumerate(RADARS)),
+    # Times, of which only the right ones are begun
+    *(sound(no_echo(TOP, time=time, clock=200 + i), (1, 3)) for i, time in enumerate(TIMES)),
+    *(damaged(no_echo(TOP, time=time), (18, 16), 51, 51) for time in NO_TIMES),
     # Row 11: an opening in quality payload, and the new text goes on
     damaged(QUALITY_BEGUN + QUALITY_DATA[:40] + SAMPLE_START + SAMPLE_END, (1, 11, 1, 3), 51, 51, 51, 51),
     # Row 12: a byte between the texts of a part; then the end text has no part open (row 16)
@@ -251,7 +269,7 @@ def causes(value):
 # The lines about the part that a receiver holds; which kind it is, the header does not say
 def block(number, read, part, receiver):
     header = receiver.header
-    digits = "".join(map(str, header.time))
+    digits = "".join(map(str, digits_of(header.minute)))
     yield f"part {number} complete at byte {read}"
     yield f"  picture  {header.picture:02X} {PICTURE_NAMES[header.picture]}"
     yield f"  kind     {KIND[part]}"
@@ -314,6 +332,10 @@ def sample():
     text, _ = printed(ARGUMENTS)
     assert {int(line.split()[1]) for line in text.split("\n") if line.startswith("answer ")} == set(MEANING)
     assert all(text.count(f"  kind     {kind}\n") >= 4 for kind in KIND.values())
+    # Each time as it was sent, told by its clock
+    for i, time in enumerate(TIMES):
+        shown = f"{time[:4]}-{time[4:6]}-{time[6:8]} {time[8:10]}:{time[10:]}"
+        assert text.count(f"  time     {shown}\n  clock    {200 + i}\n") == 1
     return text
 
 

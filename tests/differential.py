@@ -230,11 +230,11 @@ def compare(name, left, right, who=("proved", "model")):
 
 def held_part(held, grid):
     """The part that the model says is held, as decode.py wants it: its number, and header, modes and grid."""
-    part, picture, clock, noecho, mode, *places = map(int, held.split()[1:])
+    part, picture, clock, noecho, mode, minute, *places = map(int, held.split()[1:])
     header = SimpleNamespace(picture=picture, clock=clock, noecho=noecho, mode=mode,
-                             time=places[:12], radars=places[12:20])
+                             minute=minute, radars=places[:8])
     runs = (map(int, run.split("x")) for run in grid.split()[1:])
-    return part, SimpleNamespace(header=header, modes=places[20:], grid=b"".join(bytes([b]) * n for n, b in runs))
+    return part, SimpleNamespace(header=header, modes=places[8:], grid=b"".join(bytes([b]) * n for n, b in runs))
 
 
 def decoded(traffic, size, marked):

@@ -21,7 +21,7 @@ PAGE = (ROOT / "docs" / "EXAMPLE.md").read_text(encoding="utf-8")
 CRATES = {
     "example_byte": "text receiver_state receiver_byte_call",
     "my_terminal": None,
-    "example_writer": "text writer",
+    "example_writer": "text_calendar_spec text writer",
     "example_services": "text receiver_state service_levels service_overlay service_bytes_left",
 }
 

@@ -34,8 +34,9 @@ THREE_RADARS = (0xA0, 0xA7, 0xB3, 0, 0, 0, 0, 0)
 EIGHT_RADARS = (0xA5, 0xA7, 0xAF, 0xB0, 0xB1, 0xB3, 0xB5, 0xB6)
 
 
-def header(picture=0xCC, time="199906071210", radars=ONE_RADAR, mode=1, clock=9983, noecho=False):
-    return texts.Header(tuple(map(int, time)), radars, clock, picture, mode, noecho)
+# 1999.06.07.12.10
+def header(picture=0xCC, radars=ONE_RADAR, mode=1, clock=9983, noecho=False):
+    return texts.Header(-298_790, radars, clock, picture, mode, noecho)
 
 
 # A start, data or end text, with some block bytes set otherwise than 01 has them, given as
@@ -47,8 +48,10 @@ def text(block, changes={}):
     return texts.make_text(bytes(block))
 
 
-def start(part, changes={}, **fields):
-    return text(texts.start_block(part, header(**fields)), changes)
+# `time` is twelve digits, also such as no minute has
+def start(part, changes={}, time="199906071210", **fields):
+    in_bytes = texts.time_bytes(tuple(map(int, time)))
+    return text(texts.start_block(part, header(**fields)), {**dict(enumerate(in_bytes, 8)), **changes})
 
 
 def data(part, k, payload, changes={}, picture=0xCC):
@@ -316,6 +319,39 @@ for time in ("199902290000", "190002290000", "200000010000", "200013010000", "20
              "200004310000", "200001012400", "200001010060"):
     answered_at(23, 18, start(TOP, time=time))
 piece(start(TOP, noecho=True, time="200002292359") + end(TOP), 1, 3)
+MONTHS_2001 = ("0131", "0228", "0331", "0430", "0531", "0630", "0731", "0831", "0930", "1031", "1130", "1231")
+# Request 111: the first and the last minute of years 0000 to 9999 and those next to them; from both sides of 2000, of
+# the turn of other years, of leap days, and of the days that 1900 and 2100 have not; a day's first and last minute, and
+# the last day of each month
+for time in ("000001010000", "000001010001", "999912312358", "999912312359", "199912312359", "200001010000",
+             "200001010001", "200001012359", "200001020000", "000012312359", "000101010000", "999901010000",
+             "000002282359", "000002290000", "000002292359", "000003010000", "190002282359", "190003010000",
+             "199602282359", "199602290000", "199602292359", "199603010000", "200002282359", "200002290000",
+             "200003010000", "210002282359", "210003010000", "240002290000", "999602290000", "999602292359",
+             "999603010000", "999902282359", "999903010000", *(f"2001{last}2359" for last in MONTHS_2001)):
+    piece(start(TOP, noecho=True, time=time) + end(TOP), 1, 3)
+# ... and one beyond: the hour 24, the minute 60, the days and months before the first and after the last
+for time in ("000000010000", "000001000000", "000001002359", "000000000000", "999912312360", "999912312400",
+             "999912322359", "999913312359", "999912002359", "999900312359", "199912312400", "199912312360",
+             "199912320000", "200000000000", "200001002359", "000002300000", "190002290000", "190002292359",
+             "199602300000", "199702290000", "200002300000", "210002290000", "999602300000", "999902290000",
+             *(f"2001{int(last) + 1:04}0000" for last in MONTHS_2001)):
+    answered_at(23, 18, start(TOP, time=time))
+# 9 in every place of the time, one after the other, and in all: no month 96, day 97, hour 92 and minute 90
+for time in ("999906071210", "199906071210", "199909071210", "199906091210", "199906071910", "199906071219"):
+    piece(start(QUALITY, time=time) + data(QUALITY, 1, QUALITY_PAYLOAD) + end(QUALITY), 1, 2, 3)
+for time in ("199996071210", "199906971210", "199906079210", "199906071290", "999999999999"):
+    answered_at(23, 18, start(QUALITY, time=time))
+# While a part is open, the time of the text that follows breaks its rule: row 15 at its kind, and then row 18
+piece(TOP_TAKEN + start(INTENSITY, time="200002300000"), 1, 2, 15, 18)
+# Two times, one behind the other: what waited of the first does not stay
+piece(start(TOP, noecho=True, time="999912312359") + end(TOP) + start(TOP, noecho=True, time="000001010000") + end(TOP),
+      1, 3, 1, 3)
+piece(start(TOP, time="999912312359")[:28] + b"\x00", 18)
+piece(start(TOP, noecho=True, time="000001010000") + end(TOP), 1, 3)
+# An opening's first byte within the time breaks its rule (row 18), and the text that it opens is found
+for place in range(8, 24):
+    piece(SAMPLE_START[:5 + place] + SAMPLE_START + SAMPLE_END, 18, 1, 3)
 # Radars: none, no code, not rising, twice the same, after `00`; each at the byte that breaks the rule
 for place, radars in ((24, "00"), (24, "A6"), (24, "16"), (25, "A5 A3"), (25, "A5 A5"), (25, "A5 B2"),
                       (25, "A5 B7"), (26, "A5 00 A7"), (31, "A0 A1 A2 A3 A4 A5 A7 A4")):

@@ -60,6 +60,14 @@ PIECES = [
     # ... and quality's bit 7 with a cause beside it, and what no payload has
     *((QUALITY_BEGUN + data(QUALITY, 1, QUALITY_PAYLOAD, {place: b}) + end(QUALITY), (1, 18, 16))
       for place, b in ((3, 0x81), (3, FF), (52, 0xC0), (53, FE), (102, 0x81), (102, FD))),
+    # Request 111: the first and the last minute, leap days, and the days around those that are none
+    *((start(TOP, noecho=True, time=time) + end(TOP), (1, 3))
+      for time in ("000001010000", "999912312359", "199912312359", "200001010000", "000002290000", "200002292359",
+                   "190002282359", "190003010000", "210002282359", "210003010000", "199909091919", "999602290000")),
+    # ... and times that are none: row 18 at byte 23; the end text has no part open (row 16)
+    *((start(TOP, noecho=True, time=time) + end(TOP), (18, 16))
+      for time in ("000000010000", "000001000000", "999912312400", "999912312360", "199902290000", "190002290000",
+                   "210002290000", "200002300000", "999913312359", "999912322359", "999999999999")),
     # Row 19: a payload byte too many
     (QUALITY_BEGUN + with_extra(QUALITY_DATA, 50, 0x05), (1, 19)),
     # Row 20: a payload byte altered to an allowed one; row 21: the `FF`

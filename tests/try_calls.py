@@ -5,22 +5,27 @@
 
 The input is records: a length of two bytes, high byte first, and so many bytes. A record is a part, or
 a part with one altered byte. The lines are those of the model of 01's receiver, tests/model/receiver.py,
-and of what it holds. CONTENTS is the header (12 digits of the time, 8 radars, clock, picture code, mode,
-NO ECHO), 8 modes, and Adler-32 of the grid, begun at 0: all 0 after a drop.
+and of what it holds. CONTENTS is the header (minute, 8 radars, clock, picture code, mode, NO ECHO), 8 modes,
+and Adler-32 of the grid, begun at 0: all 0 after a drop. The minute is a signed count from 1 January 2000, 00:00
+(Request 111); the digits are twelve, YYYYMMDDhhmm.
 
     part LENGTH             a record, before its runs
     cut K TAKEN ANSWER      from the slice call, where the cut is K bytes into the opening
     byte TAKEN ANSWER       from the byte call; TAKEN counts the record's bytes taken so far
+    waiting TAKEN PLACE MINUTE DIGITS
+                            from the byte call, after each quiet byte that leaves place 8 to 25 of a start text:
+                            the header's minute, and the digits that wait in the state
     held CONTENTS           after answer 3
     dropped CONTENTS        after an answer above 10
-    refused CALL NUMBER COUNT SEEN PLACE KIND PICTURE PART DUE CHECK SEEN-COUNT MARKS CONTENTS
+    refused CALL NUMBER COUNT SEEN PLACE KIND PICTURE PART DUE CHECK SEEN-COUNT MARKS DIGITS CONTENTS
     answered, and the same  where a call of those is answered and not refused
 
 Of the last two, CALL is 1 for the byte call and 2 for the slice call, NUMBER is the refusal or the answer, and
 COUNT the bytes taken; what follows is the state returned and the grid left, which a refusal leaves as they were.
 Both calls are given the one byte `FD`, which would begin a text, for the bytes seen are the control bytes. Each
-record is run with the cut at K = 0 to 6 and then byte by byte; state and grid go on from run to run. All
-receivers have all twenty marks, but where a line of the last two kinds says others.
+record is run with the cut at K = 0 to 6 and then byte by byte; state and grid go on from run to run, and the grid
+goes on to the calls of the last two kinds, but where these have one of another length. All receivers have all twenty
+marks, but where a line of these two kinds says others.
 """
 
 import sys
@@ -30,7 +35,7 @@ from pathlib import Path
 sys.dont_write_bytecode = True
 sys.path.insert(0, str(Path(__file__).resolve().parent / "model"))
 import texts
-from receiver import ALL_MARKS, NO_HEADER, NO_MODES, Receiver
+from receiver import ALL_MARKS, NO_DIGITS, NO_HEADER, NO_MODES, Receiver
 from texts import CONTROL, FD, GRID, INTENSITY, OPENING, QUALITY, TOP
 
 # ---- The records, each with the answers that it must get, worked out by hand from 01's table
@@ -48,11 +53,21 @@ def altered(data, place, b):
     return data[:place] + bytes([b]) + data[place + 1:]
 
 
+# The minutes of the times below, by hand
+MINUTES = {"199906071210": -298_790, "200002292359": 86_399, "000001010000": -1_051_898_400,
+           "999912312359": 4_207_593_599, "199912312359": -1}
+
+
 def header(picture, time, radars, mode, clock, noecho=False):
-    return texts.Header(tuple(map(int, time)), bytes.fromhex(radars).ljust(8, b"\0"), clock, picture, mode, noecho)
+    return texts.Header(MINUTES[time], bytes.fromhex(radars).ljust(8, b"\0"), clock, picture, mode, noecho)
 
 
-NO_ECHO = texts.make_part(INTENSITY, header(0xCC, "199906071210", "A5", 1, 9983, True), (1, *(0,) * 7), b"")
+def no_echo(time):
+    return texts.make_part(INTENSITY, header(0xCC, time, "A5", 1, 9983, True), (1, *(0,) * 7), b"")
+
+
+NO_ECHO = no_echo("199906071210")
+assert NO_ECHO[13:29] == b"1999.06.07.12.10"
 TOP_PAYLOAD = bytes(i * i // 3 % 9 for i in range(400))
 WITH_TOPS = texts.make_part(TOP, header(0xC0, "200002292359", "A0 A7 B3", 2, 16_383),
                             (2, 1, 1, *(0,) * 5), TOP_PAYLOAD)
@@ -81,6 +96,15 @@ record(altered(WITH_QUALITY, 40 + 8 + 50, 0xC0), 1, 18, 16)
 record(altered(WITH_QUALITY, 40 + 8 + 99, 0xFF), 1, 18, 16)
 # The end text's `FF` (row 21)
 record(altered(WITH_QUALITY, 190, 0xFE), 1, 2, 21)
+# The last minute of all, and the last before 2000
+record(no_echo("999912312359"), 1, 3)
+record(no_echo("199912312359"), 1, 3)
+# The time of the first record: minute 90 at byte 23 (row 18), a stop for the day's last digit, at its own byte (row
+# 18), and the end text has no part open (row 16)
+record(altered(NO_ECHO, 5 + 22, 0x39), 18, 16)
+record(altered(NO_ECHO, 5 + 17, 0x2E), 18, 16)
+# Its year 9999, another minute: the check byte does not fit (row 20)
+record(altered(NO_ECHO, 5 + 8, 0x39), 20, 16)
 # Last, so that the refusals below have something to leave
 record(WITH_QUALITY, 1, 2, 3)
 
@@ -98,7 +122,7 @@ def line(word, *numbers):
 
 def contents(receiver):
     h = receiver.header
-    return (*h.time, *h.radars, h.clock, h.picture, h.mode, h.noecho, *receiver.modes,
+    return (h.minute, *h.radars, h.clock, h.picture, h.mode, h.noecho, *receiver.modes,
             zlib.adler32(bytes(receiver.grid), 0))
 
 
@@ -110,7 +134,22 @@ def after(receiver, answer, data):
         line("held", *contents(receiver))
     if answer > 10:
         assert receiver.header == NO_HEADER and receiver.modes == NO_MODES and not any(receiver.grid)
+        assert receiver.digits == NO_DIGITS
         line("dropped", *contents(receiver))
+
+
+# The bytes of a start block that are digits
+DIGIT_BYTES = (8, 9, 10, 11, 13, 14, 16, 17, 19, 20, 22, 23)
+
+
+# What waits at place 8 to 25 of the start text with which `data` begins: by hand, until byte 23 has come, the digits
+# that have, and then none; the minute from then on. Place counts the bytes, so byte 23 leaves place 24
+def waiting(receiver, taken, data):
+    come = [data[5 + at] - 0x30 for at in DIGIT_BYTES if at < receiver.place]
+    wanted = (*come, *(0,) * (12 - len(come))) if receiver.place < 24 else (0,) * 12
+    assert taken == 5 + receiver.place and receiver.digits == wanted
+    assert receiver.header.minute == (texts.minute_of_field(data[13:29]) if receiver.place >= 24 else 0)
+    line("waiting", taken, receiver.place, receiver.header.minute, *receiver.digits)
 
 
 # In two slices, each given until it is used up; the answers but 0
@@ -135,6 +174,8 @@ def byte_run(receiver, data):
             answers.append(answer)
             line("byte", taken, answer)
             after(receiver, answer, data)
+        elif texts.is_start_kind(receiver.kind) and 8 <= receiver.place <= 25:
+            waiting(receiver, taken, data)
     return tuple(answers)
 
 
@@ -163,39 +204,67 @@ STATES = [
 # Request 101, in the state FREE: all marks and none, which are answered, and the least and the greatest number with
 # marks beyond the twentieth, refused with 2
 MARKS = ((ALL_MARKS, 0), (0, 0), (1_048_576, 2), (4_294_967_295, 2))
+
+
+# Twelve digits, 0 but for these: {number of the digit, from 0: digit}
+def digits(others):
+    return tuple(others.get(i, 0) for i in range(12))
+
+
+NINES = digits(dict.fromkeys(range(12), 9))
+# Request 111: states with digits that wait. With 11, no rule is broken, and an opening ends while a text is under way
+DIGITS = [
+    ((9, 0x10, 0xCC, 0, 0, 0, 5), NINES, 11),  # the first place with digits
+    ((23, 0x30, 0xCC, 0, 0, 0, 5), NINES, 11),  # the last one
+    ((9, 0x20, 0xCC, 0, 0, 0, 5), digits({11: 1}), 11),  # one that has still to come is not judged
+    ((16, 0x10, 0xCC, 0, 0, 0, 5), NO_DIGITS, 11),
+    ((9, 0x10, 0xCC, 0, 0, 0, 5), digits({0: 10}), 2),  # above 9
+    ((23, 0x10, 0xCC, 0, 0, 0, 5), digits({11: 255}), 2),
+    ((16, 0x20, 0xCC, 0, 0, 0, 5), digits({5: 10}), 2),
+    ((8, 0x10, 0xCC, 0, 0, 0, 5), digits({0: 1}), 2),  # before the first digit is taken
+    ((24, 0x10, 0xCC, 0, 0, 0, 5), digits({11: 1}), 2),  # after byte 23
+    ((34, 0x10, 0xCC, 0, 0, 0, 5), NINES, 2),
+    ((0, 0, 0, 0, 0, 0, 5), digits({0: 1}), 2),  # between texts
+    ((2, 0, 0xCC, 0, 0, 0, 5), digits({11: 9}), 2),  # before the kind is read
+    ((12, 0x1F, 0xCC, 1, 11, 0, 5), digits({2: 2}), 2),  # an end text
+    ((12, 0x11, 0xCC, 1, 1, 0, 5), digits({2: 2}), 2),  # a data text
+]
 # Refused with 1, whatever the state
 LENGTHS = (0, 19_999, 20_001)
 
 
-# A receiver in a made-up state, with header and modes of one that has received, and a grid of its own
-def made_up(receiver, grid, frame, marks):
+# A receiver in a made-up state, with header and modes of one that has received, and this grid
+def made_up(receiver, grid, frame, marks, twelve):
     tried = Receiver()
     tried.place, tried.kind, tried.picture, tried.part, tried.due, tried.check, count = frame
     tried.seen = CONTROL.rjust(count, b"\0")
-    tried.marks = marks
-    tried.header, tried.modes, tried.grid = receiver.header, receiver.modes, bytearray(grid)
+    tried.marks, tried.digits = marks, twelve
+    tried.header, tried.modes, tried.grid = receiver.header, receiver.modes, grid
     return tried
 
 
 # The bytes seen are printed as one number, the newest byte lowest
 def state(tried):
     return (int.from_bytes(tried.seen), tried.place, tried.kind, tried.picture, tried.part, tried.due, tried.check,
-            len(tried.seen), tried.marks, *contents(tried))
+            len(tried.seen), tried.marks, *tried.digits, *contents(tried))
 
 
-# Both calls in one state. A refused call takes nothing and leaves all as it was; `wanted` is the refusal, or 0.
-# With no part open the byte is an opening's last, and so quiet: place 1, its check byte, and all else as it was
-def call_lines(receiver, grid, frame, wanted, marks=ALL_MARKS):
+# Both calls in one state. A refused call takes nothing and leaves all as it was; `wanted` is the refusal, or 0 or 11.
+# The byte is an opening's last. Between texts with no part open it is quiet: place 1, its check byte, and all else as
+# it was. While a text is under way that is row 11: state and grid are dropped, and the new text has the same place and
+# check byte
+def call_lines(receiver, grid, frame, wanted, marks=ALL_MARKS, twelve=NO_DIGITS):
     for call in (1, 2):
-        tried = made_up(receiver, grid, frame, marks)
-        assert tried.refusal() == wanted
-        if wanted != 0:
+        tried = made_up(receiver, grid, frame, marks, twelve)
+        assert tried.refusal() == (wanted if wanted in (1, 2) else 0)
+        if wanted in (1, 2):
             line("refused", call, wanted, 0, *state(tried))
             continue
-        before = contents(tried)
+        kept = contents(tried) if wanted == 0 else (0,) * 22
         answer, count = (tried.byte(GIVEN[0]), 1) if call == 1 else tried.slice(GIVEN)
-        assert (answer, count, tried.seen) == (0, 1, OPENING[1:]) and contents(tried) == before
-        assert (tried.place, tried.check, tried.marks) == (1, FD, marks)
+        assert (answer, count, tried.seen) == (wanted, 1, OPENING[1:]) and contents(tried) == kept
+        assert (tried.place, tried.kind, tried.picture, tried.part, tried.due) == (1, 0, 0, 0, 0)
+        assert (tried.check, tried.marks, tried.digits) == (FD, marks, NO_DIGITS)
         line("answered", call, answer, count, *state(tried))
 
 
@@ -205,15 +274,19 @@ def make_lines():
         line("part", len(data))
         runs = [cut_run(receiver, data, k) for k in range(7)] + [byte_run(receiver, data)]
         assert all(run == answers for run in runs), f"answers {answers} by hand, {runs} by the model"
-    assert any(receiver.grid)
+    assert receiver.header.minute == -1_051_898_400
     for frame in STATES:
         call_lines(receiver, receiver.grid, frame, 2)
     for marks, wanted in MARKS:
         call_lines(receiver, receiver.grid, FREE, wanted, marks)
+    assert any(receiver.grid)
+    for frame, twelve, wanted in DIGITS:
+        call_lines(receiver, receiver.grid, frame, wanted, ALL_MARKS, twelve)
+        assert not any(receiver.grid)  # from the first of these on
     # "1" comes before "2". The grid is all sevens
     for length in LENGTHS:
         for frame in (FREE, SIX_SEEN):
-            call_lines(receiver, b"\x07" * length, frame, 1)
+            call_lines(receiver, bytearray(b"\x07" * length), frame, 1)
 
 
 if __name__ == "__main__":

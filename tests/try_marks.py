@@ -3,15 +3,16 @@
     python3 tests/try_marks.py < crates/try_marks/stdin | diff - crates/try_marks/stdout
 
 The input is one byte N; N times four bytes, high byte first, which are numbers handed to fresh; and then a stream, to
-the input's end. The lines are those of the model of 01's receiver with Request 101, tests/model/receiver.py; input and
-the same lines come from the second implementation. All numbers are decimal. For each of the N numbers in turn:
+the input's end. The lines are those of the model of 01's receiver with Requests 101 and 111, tests/model/receiver.py;
+input and the same lines come from the second implementation. All numbers are decimal. For each of the N numbers:
 
     marks NUMBER SET RAW    the number; how many marks the fresh receiver has; how many are set in the fresh state
                             when its marks are overwritten by the number itself
     slice TOTAL ANSWER      the stream, given to the fresh receiver by slice calls, each with all bytes that are
                             left: a line for each answer but 0. TOTAL is the bytes of the stream so far
-    held PART PICTURE CLOCK NOECHO MODE TIME RADARS MODES
-                            after answer 3: what the receiver holds. The time is 12 digits, radars and modes 8 each
+    held PART PICTURE CLOCK NOECHO MODE MINUTE RADARS MODES
+                            after answer 3: what the receiver holds. The minute is a signed count from 1 January
+                            2000, 00:00; radars and modes are 8 each
     grid RUNS               after that the grid, from its first byte on: COUNTxBYTE for each run of equal bytes
     byte TOTAL ANSWER       the same stream to another fresh receiver by byte calls; then `held` and `grid` too
     end MARKS SET MARKS SET marks and how many are set, of the slice calls' last state and of the byte calls'
@@ -45,7 +46,7 @@ def read(given):
 # What a receiver holds of this part, at answer 3
 def held(part, receiver):
     header = receiver.header
-    line("held", part, header.picture, header.clock, int(header.noecho), header.mode, *header.time, *header.radars,
+    line("held", part, header.picture, header.clock, int(header.noecho), header.mode, header.minute, *header.radars,
          *receiver.modes)
     line("grid", *(f"{len(list(run))}x{b}" for b, run in itertools.groupby(receiver.grid)))
 

@@ -2,7 +2,7 @@
 
     python3 tests/try_services.py > crates/try_services/stdout
 
-They are those of the model of 01's services with Requests 101 and 106, tests/model/services.py. The samples and
+They are those of the model of 01's services with Requests 101, 106 and 111, tests/model/services.py. The samples and
 calls stand here and in the program, crates/try_services/src. A sum is Adler-32, begun at 0.
 
     grid LENGTH SUM                     a grid, which the lines below it are about
@@ -20,9 +20,10 @@ calls stand here and in the program, crates/try_services/src. A sum is Adler-32,
     taken TAKEN PLACE left BYTES        bytes left after so many bytes of the part in the heading above, which
                                         a fresh receiver with all twenty marks is given byte by byte, where
                                         the state has this place; with 0 bytes taken, of a fresh receiver
-    state PLACE KIND PICTURE PART DUE CHECK SEEN-COUNT MARKS set COUNT left BYTES
+    state PLACE KIND PICTURE PART DUE CHECK SEEN-COUNT MARKS DIGITS set COUNT left BYTES
                                         how many of the twenty marks are set, and bytes left, in a state of
-                                        these numbers
+                                        these numbers. The twelve digits that wait are two hexadecimal digits
+                                        each, the first one first
 
 Where a service refuses, `refused` and the row of 01 stand in place of the last word and its number. In an
 overlay's line they stand in place of `laid`, and the sum is that of the third grid as it was.
@@ -207,7 +208,8 @@ def clocks():
 
 # ---- Stored parts
 
-WRITER_HEADER = WriterHeader((1, 9, 9, 9, 0, 6, 0, 7, 1, 2, 1, 0), (0xA0, 0xA7, 0xB3, *(0,) * 5), 9983, 0xCC)
+# The minute is that of 1999.06.07.12.10
+WRITER_HEADER = WriterHeader(-298_790, (0xA0, 0xA7, 0xB3, *(0,) * 5), 9983, 0xCC)
 MODES = (2, 1, 3, *(0,) * 5)
 
 # Payloads: the first sample grid, echo tops in turn, and the hundred highest values of quality
@@ -355,16 +357,36 @@ STATES = [
     (0, 0, 0, 0, 0, 0, 5, 2_147_483_648, 0, Refused(2)),
     (0, 0, 0, 0, 0, 0, 5, 4_294_967_295, 20, Refused(2)),
 ]
+# Request 111: place, kind, picture code, part, due text, check byte, count of the bytes seen; the digits that wait, two
+# hexadecimal digits each; bytes left, by hand. All marks are set
+DIGITS = [
+    # The first place of a start text with digits, and the last: 35 bytes come from the `FD` on
+    ((9, 0x10, 0xCC, 0, 0, 0, 5), "09 00 00 00 00 00 00 00 00 00 00 00", 26),
+    ((23, 0x20, 0xCC, 0, 0, 0, 5), "09 09 09 09 09 09 09 09 09 09 09 09", 12),
+    # Not possible: a digit above 9; one that is not 0 before byte 8 and after byte 23, between texts, in an end text
+    ((17, 0x10, 0xCC, 0, 0, 0, 5), "0A 00 00 00 00 00 00 00 00 00 00 00", Refused(2)),
+    ((8, 0x10, 0xCC, 0, 0, 0, 5), "01 00 00 00 00 00 00 00 00 00 00 00", Refused(2)),
+    ((24, 0x10, 0xCC, 0, 0, 0, 5), "00 00 00 00 00 00 00 00 00 00 00 01", Refused(2)),
+    ((0, 0, 0, 0, 0, 0, 5), "00 00 00 00 00 00 00 00 00 00 00 01", Refused(2)),
+    ((12, 0x1F, 0xCC, 1, 11, 0, 5), "01 00 00 00 00 00 00 00 00 00 00 00", Refused(2)),
+]
+
+
+def state(frame, digits, marked, wanted):
+    receiver = Receiver()
+    (receiver.place, receiver.kind, receiver.picture, receiver.part, receiver.due, receiver.check,
+     seen, receiver.marks) = frame
+    receiver.seen, receiver.digits = CONTROL.rjust(seen, b"\0"), tuple(digits)
+    assert receiver.marks_set() == marked and len(receiver.digits) == 12
+    start = ("state", *frame, digits.hex().upper(), "set", marked)
+    answer(start, "left", services.bytes_left(receiver), wanted)
 
 
 def states():
     for *frame, marked, wanted in STATES:
-        receiver = Receiver()
-        (receiver.place, receiver.kind, receiver.picture, receiver.part, receiver.due, receiver.check,
-         seen, receiver.marks) = frame
-        receiver.seen = CONTROL.rjust(seen, b"\0")
-        assert receiver.marks_set() == marked
-        answer(("state", *frame, "set", marked), "left", services.bytes_left(receiver), wanted)
+        state(frame, bytes(12), marked, wanted)
+    for frame, digits, wanted in DIGITS:
+        state((*frame, ALL_MARKS), bytes.fromhex(digits), 20, wanted)
 
 
 if __name__ == "__main__":

@@ -6,7 +6,8 @@
 The vectors stand here alone. The input is requests, one behind the other: a byte for what is asked, two bytes
 for the length of the arguments, high byte first, and the arguments. The line of a request is its number, that
 is the byte in decimal, and the results, a space before each: of 1 to 42 one for each group of arguments, else
-one. A test's result is 1 or 0. Results are those of the model of 01, "A text", tests/model/texts.py.
+one. A test's result is 1 or 0. A minute is a signed count from 1 January 2000, 00:00, here eight bytes, two's
+complement, high byte first (Request 111). Results are those of the model of 01, "A text", tests/model/texts.py.
 
     1   is_picture_code         byte
     2   is_radar_code           byte
@@ -32,13 +33,15 @@ one. A test's result is 1 or 0. Results are those of the model of 01, "A text", 
     40  is_leap_year            year (two bytes)
     41  days_in                 year (two bytes), month
     42  is_moment               year (two bytes), month, day, hour, minute
-    50  is_time                 12 digits
+    50  the time check          12 digits; the result is the minute, or the word `invalid`
     51  highest_mode            8 modes
     52  is_radar_list           8 radars
     53  are_modes_for           8 radars, 8 modes
-    54  is_writer_header              12 digits of the time, 8 radars, clock (two bytes), picture code
+    54  is_writer_header              minute, 8 radars, clock (two bytes), picture code
     55  is_writer_input               the same, 8 modes
     56  writer_header_of              as 54, mode, NO ECHO; the results are what the writer takes, as in 54
+    57  is_minute               minute; whether it is one of years 0000 to 9999
+    58  digits_of               minute; the results are its 12 digits, all 0 outside these years
     60  xor_all                 bytes
     61  check_byte              bytes
     62  are_zero                bytes
@@ -58,21 +61,27 @@ from texts import Header, WriterHeader
 # ---- What is asked
 
 # The numbers of what a writer takes in a row, as requests and lines have them
-WRITER_HEADER = "12B8BHB"
+WRITER_HEADER = "q8BHB"
 
 
 def row(writer_header):
-    return *writer_header.time, *writer_header.radars, writer_header.clock, writer_header.picture
+    return writer_header.minute, *writer_header.radars, writer_header.clock, writer_header.picture
 
 
 # What a writer takes of a header, of its numbers in a row
 def writer_header(numbers):
-    return WriterHeader(numbers[:12], numbers[12:20], *numbers[20:])
+    return WriterHeader(numbers[0], numbers[1:9], *numbers[9:])
 
 
 # A header: what a writer takes of it, mode and NO ECHO
 def header(numbers):
-    return Header(*writer_header(numbers[:22]), *numbers[22:])
+    return Header(*writer_header(numbers[:11]), *numbers[11:])
+
+
+# The time check: the minute, or the word
+def minute_or_invalid(*digits):
+    minute = texts.minute_of(digits)
+    return "invalid" if minute is None else minute
 
 
 # 01 has no such call. What its own comment says: bytes from a place on, and where they do not fit the output
@@ -111,13 +120,15 @@ ASKED = {
     40: ("H", texts.is_leap_year),
     41: ("HB", texts.days_in),
     42: ("HBBBB", texts.is_moment),
-    50: ("12B", lambda *digits: texts.is_time(digits)),
+    50: ("12B", minute_or_invalid),
     51: ("8B", lambda *modes: texts.highest_mode(modes)),
     52: ("8B", lambda *radars: texts.is_radar_list(radars)),
     53: ("16B", lambda *both: texts.are_modes_for(both[:8], both[8:])),
     54: (WRITER_HEADER, lambda *numbers: texts.is_writer_header(writer_header(numbers))),
-    55: (WRITER_HEADER + "8B", lambda *numbers: texts.is_writer_input(writer_header(numbers[:22]), numbers[22:])),
+    55: (WRITER_HEADER + "8B", lambda *numbers: texts.is_writer_input(writer_header(numbers[:11]), numbers[11:])),
     56: (WRITER_HEADER + "BB", lambda *numbers: row(texts.writer_header_of(header(numbers)))),
+    57: ("q", texts.is_minute),
+    58: ("q", texts.digits_of),
     60: (None, lambda *block: texts.xor_all(block)),
     61: (None, lambda *block: texts.check_byte(block)),
     62: (None, lambda *data: not any(data)),
@@ -128,8 +139,9 @@ ASKED = {
 REQUESTS, LINES = [], []
 
 
-# One request: groups of numbers are its arguments. From 50 on there is one group
-def ask(number, *groups):
+# One request: groups of numbers are its arguments. From 50 on there is one group. `wanted`, by hand, are the results
+# or None
+def ask(number, *groups, wanted=None):
     layout, answer = ASKED[number]
     assert number < 50 or len(groups) == 1
     args = b"".join(struct.pack(f">{layout or f'{len(group)}B'}", *group) for group in groups)
@@ -138,7 +150,8 @@ def ask(number, *groups):
     for group in groups:
         result = answer(*group)
         results += result if isinstance(result, tuple) else [result]
-    LINES.append(" ".join(map(str, map(int, [number, *results]))))
+    assert wanted in (None, results), f"{number} {groups}: {wanted} by hand, {results} by the model"
+    LINES.append(" ".join(str(item if item == "invalid" else int(item)) for item in (number, *results)))
 
 
 # The same of each byte, or of what stands before it with each byte
@@ -210,12 +223,33 @@ def calendar():
         ask(42, *((1987, 8, 15, hour, minute) for minute in range(62)))
 
 
-# The times of 01, and the first and the last
-GOOD_TIMES = ("198708151215", "199906071210", "200002290000", "000001010000", "999912312359")
+# Times and their minutes, by hand: those of 01, the first and the last, and from both sides of 2000, of leap days, of
+# the days that 1900 and 2100 have not, and of what 32 bits hold. The rest have 9 at a place
+GOOD_TIMES = {
+    "198708151215": -6_510_945, "199906071210": -298_790, "200002290000": 84_960,
+    "000001010000": -1_051_898_400, "999912312359": 4_207_593_599,
+    "000001010001": -1_051_898_399, "000001012359": -1_051_896_961, "999912310000": 4_207_592_160,
+    "999912312358": 4_207_593_598,
+    "199912312359": -1, "200001010000": 0, "200001010001": 1, "200001012359": 1_439, "200001020000": 1_440,
+    "199912310000": -1_440, "199912302359": -1_441,
+    "200002282359": 84_959, "200002292359": 86_399, "200003010000": 86_400,
+    "000002282359": -1_051_813_441, "000002290000": -1_051_813_440, "000003010000": -1_051_812_000,
+    "190002282359": -52_509_601, "190003010000": -52_509_600,
+    "210002282359": 52_680_959, "210003010000": 52_680_960,
+    "199602290000": -2_018_880, "199602292359": -2_017_441, "199603010000": -2_017_440,
+    "999602290000": 4_205_574_720, "999603010000": 4_205_576_160,
+    "608301230207": 2_147_483_647, "608301230208": 2_147_483_648,
+    "999906071210": 4_207_294_810, "199909071210": -166_310, "199906091210": -295_910, "199906071910": -298_370,
+    "199906071219": -298_781,
+}
 # A rule broken in each: that of the date, of the hour or of the minute
 BAD_TIMES = (
     *("199902290000", "200002300000", "198700151215", "198713151215", "198708001215", "198708321215"),
     *("198706311215", "198708152400", "198708151260", "000000000000"),
+    *("190002290000", "210002290000", "999902290000", "000002300000", "199602300000", "000000010000"),
+    *("000001000000", "999900312359", "999912002359", "999913312359", "999912322359", "999912312400"),
+    *("999912312360", "199912312400", "199912312360", "200000010000", "200001000000", "200101012400"),
+    *("199996071210", "199906971210", "199906079210", "199906071290", "999999999999"),
 )
 
 
@@ -232,8 +266,30 @@ def bad_digits():
 
 
 def times():
-    for digits in (*map(time, GOOD_TIMES + BAD_TIMES), *bad_digits()):
-        ask(50, digits)
+    for text, minute in GOOD_TIMES.items():
+        ask(50, time(text), wanted=[minute])
+    for digits in (*map(time, BAD_TIMES), *bad_digits()):
+        ask(50, digits, wanted=["invalid"])
+
+
+# The least and the greatest number of 64 bits
+LEAST, GREATEST = -2 ** 63, 2 ** 63 - 1
+# One beyond the first minute of years 0000 to 9999, one beyond the last, a day beyond each; the ends of what 64 bits
+# hold, and the least number of 32 bits; then numbers whose lower 32 bits are a minute's
+NO_MINUTES = (
+    *(-1_051_898_401, 4_207_593_600, -1_051_898_400 - 1_440, 4_207_593_599 + 1_440, LEAST, LEAST + 1, GREATEST - 1),
+    *(GREATEST, -2 ** 31, 2 ** 32, -2 ** 32, 4_207_593_599 + 2 ** 32, -1_051_898_400 - 2 ** 32),
+)
+
+
+# Of the minutes of the times above, and of numbers that are none
+def minutes():
+    for text, minute in GOOD_TIMES.items():
+        ask(57, (minute,), wanted=[True])
+        ask(58, (minute,), wanted=list(time(text)))
+    for minute in NO_MINUTES:
+        ask(57, (minute,), wanted=[False])
+        ask(58, (minute,), wanted=[0] * 12)
 
 
 # One, two, seven and eight radars
@@ -271,36 +327,37 @@ def radars():
 
 
 # What 01's start and end text give, and then other fields in their place
-SAMPLE = {"time": "199906071210", "radars": "A5", "clock": 9983, "picture": 0xCC, "modes": "01"}
+SAMPLE = {"minute": -298_790, "radars": "A5", "clock": 9983, "picture": 0xCC, "modes": "01"}
 # Headers and modes that keep every rule
 GOOD_INPUT = (
-    *({}, {"clock": 0}, {"clock": 16383}, {"picture": 0xC0}, {"picture": 0xF1}, {"time": "200002290000"}),
+    *({}, {"clock": 0}, {"clock": 16383}, {"picture": 0xC0}, {"picture": 0xF1}, {"minute": 84_960}),
+    *({"minute": minute} for minute in (-1_051_898_400, -1_051_898_399, -1, 0, 1, 4_207_593_598, 4_207_593_599)),
     *({"radars": "A3 A5", "modes": "03 01"}, {"radars": FULL, "modes": "01 02 03 01 02 03 01 02"}),
 )
-# The clock, the picture code, the time or the radars break their rule; then the modes do, and the header
+# The clock, the picture code, the minute or the radars break their rule; then the modes do, and the header
 # does not
 BAD_INPUT = (
     *({"clock": 16384}, {"clock": 65535}, {"picture": 0x00}, {"picture": 0xC3}, {"picture": 0xFD}),
-    *({"time": "199902291210"}, {"time": "199913071210"}, {"time": "199906072410"}),
-    *({"time": "199906071260"}, {"time": (*time("1999060712"), 0, 10)}),
+    *({"minute": minute} for minute in NO_MINUTES),
     *({"radars": "", "modes": ""}, {"radars": "A6"}, {"radars": "A5 A3", "modes": "01 01"}),
     *({"radars": "A5 A5", "modes": "01 01"}, {"radars": "A3 00 A5", "modes": "01 00 01"}),
     *({"modes": ""}, {"modes": "04"}, {"modes": "01 01"}, {"modes": "01 00 00 00 00 00 00 02"}),
     {"radars": "A3 A5"},
 )
-# Clock, picture code, mode and NO ECHO of headers; a writer takes not the last two
-HEADERS = ((9983, 0xCC, 1, True), (16383, 0xF1, 3, False), (0, 0, 0, False))
+# Minute, clock, picture code, mode and NO ECHO of headers; a writer takes not the last two
+HEADERS = ((-298_790, 9983, 0xCC, 1, True), (4_207_593_599, 16383, 0xF1, 3, False), (0, 0, 0, 0, False),
+           (-1_051_898_400, 1, 0xC0, 2, True), (LEAST, 65_535, 0xFF, 255, True), (GREATEST, 0, 0, 0, False))
 
 
 def writer_headers():
     for other in GOOD_INPUT + BAD_INPUT:
         case = SAMPLE | other
-        given = row(WriterHeader(time(case["time"]), eight(case["radars"]), case["clock"], case["picture"]))
+        given = row(WriterHeader(case["minute"], eight(case["radars"]), case["clock"], case["picture"]))
         ask(54, given)
-        ask(55, given + eight(case["modes"]))
-    for clock, picture, mode, noecho in HEADERS:
-        given = row(WriterHeader(time(SAMPLE["time"]), eight(SAMPLE["radars"]), clock, picture))
-        ask(56, (*given, mode, noecho))
+        ask(55, given + eight(case["modes"]), wanted=[other in GOOD_INPUT])
+    for minute, clock, picture, mode, noecho in HEADERS:
+        given = row(WriterHeader(minute, eight(SAMPLE["radars"]), clock, picture))
+        ask(56, (*given, mode, noecho), wanted=list(given))
 
 
 # Byte i of the generated block of n bytes: (31 * i + i / 7 + n) mod 256
@@ -368,6 +425,7 @@ if __name__ == "__main__":
     modes()
     calendar()
     times()
+    minutes()
     radars()
     writer_headers()
     blocks()

@@ -4,24 +4,26 @@
     python3 tests/try_writer.py > crates/try_writer/stdout
 
 The calls stand here alone. The input is calls, one behind the other. A call is what the writer takes, of
-a number's two bytes the high one first:
+a number's bytes the high one first; the minute, a signed count from 1 January 2000, 00:00 (Request 111), is in two's
+complement:
 
     byte 0            part
-    bytes 1 to 12     digits of the time
-    bytes 13 to 20    radars
-    bytes 21 and 22   clock
-    byte 23           picture code
-    bytes 24 to 31    modes
-    bytes 32 and 33   the output's length
-    bytes 34 and 35   the payload's length
-    from byte 36 on   the payload
+    bytes 1 to 8      minute
+    bytes 9 to 16     radars
+    bytes 17 and 18   clock
+    byte 19           picture code
+    bytes 20 to 27    modes
+    bytes 28 and 29   the output's length
+    bytes 30 and 31   the payload's length
+    from byte 32 on   the payload
 
 The output is all `AA` before the writer has it. What was written goes to a fresh receiver with all twenty marks,
 by as many slice calls as that takes. The lines of a call, in decimal:
 
     wrote LENGTH SUM          the length of what was written
     took COUNT ANSWER         one for each slice call
-    held CONTENTS             after answer 3: header, modes, the grid's sum
+    held CONTENTS             after answer 3: header (minute, 8 radars, clock, picture code, mode, NO ECHO), 8 modes,
+                              the grid's sum
     refused NUMBER SUM        a row of 01's table, 31 to 34
 
 A sum is Adler-32, begun at 0. SUM is over the whole output after the call: what was written, and behind it, or
@@ -49,19 +51,34 @@ def adler(data):
 
 # ---- What the writer takes
 
-def digits(text):
-    return tuple(map(int, text))
-
-
 # A list of eight, from its bytes in hexadecimal
 def eight(text):
     return tuple(bytes.fromhex(text).ljust(8, b"\0"))
 
 
+# The first minute of years 0000 to 9999, and the last; the least and the greatest number of 64 bits
+FIRST, LAST = -1_051_898_400, 4_207_593_599
+LEAST, GREATEST = -2 ** 63, 2 ** 63 - 1
+# Minutes and how they are written, by hand: the first and the last and those next to them, from both sides of 2000, of
+# leap days, and of the days that 1900 and 2100 have not; others with 9 at a place; the least above what 32 bits with a
+# sign hold
+TIMES = {
+    FIRST: "0000.01.01.00.00", FIRST + 1: "0000.01.01.00.01", LAST - 1: "9999.12.31.23.58", LAST: "9999.12.31.23.59",
+    -1: "1999.12.31.23.59", 0: "2000.01.01.00.00", 1: "2000.01.01.00.01",
+    84_959: "2000.02.28.23.59", 84_960: "2000.02.29.00.00", 86_399: "2000.02.29.23.59", 86_400: "2000.03.01.00.00",
+    -1_051_813_440: "0000.02.29.00.00", -1_051_812_000: "0000.03.01.00.00",
+    -52_509_601: "1900.02.28.23.59", -52_509_600: "1900.03.01.00.00",
+    52_680_959: "2100.02.28.23.59", 52_680_960: "2100.03.01.00.00",
+    -2_018_880: "1996.02.29.00.00", 4_205_574_720: "9996.02.29.00.00",
+    -298_790: "1999.06.07.12.10", -6_510_945: "1987.08.15.12.15", -166_310: "1999.09.07.12.10",
+    -295_910: "1999.06.09.12.10", -298_370: "1999.06.07.19.10", -298_781: "1999.06.07.12.19",
+    2_147_483_648: "6083.01.23.02.08",
+}
+
 WRITER_HEADERS = {
-    INTENSITY: WriterHeader(digits("199906071210"), eight("A5"), 9983, 0xCC),
-    TOP: WriterHeader(digits("200002292359"), eight("A0 A7 B3"), 16_383, 0xC0),
-    QUALITY: WriterHeader(digits("000001010000"), eight("A5 A7 AF B0 B1 B3 B5 B6"), 0, 0xF1),
+    INTENSITY: WriterHeader(-298_790, eight("A5"), 9983, 0xCC),
+    TOP: WriterHeader(86_399, eight("A0 A7 B3"), 16_383, 0xC0),
+    QUALITY: WriterHeader(FIRST, eight("A5 A7 AF B0 B1 B3 B5 B6"), 0, 0xF1),
 }
 MODES = {
     INTENSITY: eight("01"),
@@ -108,7 +125,7 @@ def refusal(part, header, modes, payload, length):
 # One call: its bytes, its line, and the bytes written. `wanted`, by hand, is a row's number or the length of
 # what is written. "the rest of the output is untouched"; a refusal leaves "output unchanged, 0 written"
 def attempt(wanted, part, header, modes, payload, length):
-    head = struct.pack(">B12B8BHB", part, *header.time, *header.radars, header.clock, header.picture)
+    head = struct.pack(">Bq8BHB", part, header.minute, *header.radars, header.clock, header.picture)
     CALLS.append(head + struct.pack(">8BHH", *modes, length, len(payload)) + payload)
     output = bytearray(b"\xAA" * length)
     row = refusal(part, header, modes, payload, length)
@@ -118,6 +135,8 @@ def attempt(wanted, part, header, modes, payload, length):
         return b""
     data = texts.written_part(part, header, modes, payload)
     assert len(data) == wanted and texts.undamaged_part(data)
+    # "Bytes 8 to 23 are ASCII", behind the control bytes. Request 111: "The written bytes are those of before."
+    assert data[13:29] == TIMES[header.minute].encode()
     output[:wanted] = data
     assert len(output) == length
     LINES.append(f"wrote {wanted} {adler(output)}")
@@ -135,7 +154,7 @@ def usual(wanted, part, payload, length):
 # The line for what a receiver holds
 def held(receiver):
     header = receiver.header
-    numbers = [*header.time, *header.radars, header.clock, header.picture, header.mode, int(header.noecho)]
+    numbers = [header.minute, *header.radars, header.clock, header.picture, header.mode, int(header.noecho)]
     return " ".join(map(str, ["held", *numbers, *receiver.modes, adler(receiver.grid)]))
 
 
@@ -183,6 +202,18 @@ def parts():
         through(QUALITY, bytes([b]) * 100, 191, 191, 3, [1, 2, 3])
 
 
+# Every minute above with a payload of all zeros, echo top and quality in turn; intensity with the first and the last
+def minutes():
+    tried = [(TOP if i % 2 == 0 else QUALITY, minute) for i, minute in enumerate(TIMES)]
+    for part, minute in (*tried, (INTENSITY, FIRST), (INTENSITY, LAST)):
+        header, modes = WRITER_HEADERS[part]._replace(minute=minute), MODES[part]
+        size, length, mode, answers = {
+            INTENSITY: (20_000, 80, 1, [1, 3]), TOP: (400, 80, 2, [1, 3]), QUALITY: (100, 191, 3, [1, 2, 3]),
+        }[part]
+        data = attempt(length, part, header, modes, bytes(size), length)
+        read_back(data, header, modes, bytes(size), mode, length == 80, answers)
+
+
 # ---- Refusals
 
 # With what keeps every other rule for some part
@@ -194,13 +225,15 @@ def row_31():
 
 # One field of what keeps every rule is altered, or radars and modes; first none is
 def row_32():
-    good = WriterHeader(digits("198708151215"), eight("A3 A5"), 16_383, 0xD4)
+    good = WriterHeader(-6_510_945, eight("A3 A5"), 16_383, 0xD4)
     good_modes = eight("02 01")
     calls = [({"picture": code}, good_modes) for code in (0x00, 0xCD, 0xFD)]
     calls += [({"clock": clock}, good_modes) for clock in (16_384, 65_535)]
-    # No leap day, month 13, day 0, hour 24, minute 60, a digit above 9
-    times = ["199902291215", "198713151215", "198708001215", "198708152415", "198708151260"]
-    calls += [({"time": time}, good_modes) for time in (*map(digits, times), (*digits("19870815120"), 10))]
+    # One beyond the first and the last minute of years 0000 to 9999, and a day; the ends of what 64 bits hold; numbers
+    # whose lower 32 bits are a minute's
+    minutes = (FIRST - 1, LAST + 1, FIRST - 1_440, LAST + 1_440, LEAST, LEAST + 1, GREATEST - 1, GREATEST, 2 ** 32,
+               -2 ** 32, LAST + 2 ** 32, FIRST - 2 ** 32)
+    calls += [({"minute": minute}, good_modes) for minute in minutes]
     # Falling, the same twice, none, a code that is none, one after `00`
     calls += [({"radars": eight("A5 A3")}, good_modes), ({"radars": eight("A5 A5")}, good_modes)]
     calls += [({"radars": eight("")}, eight("")), ({"radars": eight("A3 A6")}, good_modes)]
@@ -245,15 +278,21 @@ def row_34():
 
 # From a call that breaks every rule to one that breaks the last
 def order():
-    nothing = WriterHeader((0,) * 12, eight(""), 65_535, 0)
+    nothing = WriterHeader(GREATEST, eight(""), 65_535, 0)
     attempt(31, 4, nothing, (4,) * 8, b"\xFF", 79)
     attempt(32, TOP, nothing, (4,) * 8, b"\xFF", 79)
     usual(33, TOP, b"\xFF", 79)
     usual(34, TOP, bytes(400), 79)
+    # The minute alone, and a rule of the next row
+    no_minute = WRITER_HEADERS[TOP]._replace(minute=LAST + 1)
+    attempt(31, 4, no_minute, MODES[TOP], bytes(400), 491)
+    attempt(32, TOP, no_minute, MODES[TOP], b"\xFF", 491)
+    attempt(32, TOP, no_minute, MODES[TOP], bytes(400), 79)
 
 
 if __name__ == "__main__":
     parts()
+    minutes()
     row_31()
     row_32()
     row_33()

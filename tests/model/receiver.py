@@ -1,11 +1,11 @@
-"""01-scope.md, section "The receiver", with Request 101, as a class.
+"""01-scope.md, section "The receiver", with Requests 101 and 111, as a class.
 
 Written from these papers alone, on texts.py, the model of 01's section "A text": nothing here is taken
 from the library or from its definitions. The rows of 01's table are cited by their number, and 51 is
-Request 101's. What stands in quotes is 01's, and after "Request 101:" that request's.
+Request 101's. What stands in quotes is 01's, and after "Request 101:" or "Request 111:" that request's.
 
-Run as a program, it tries 01's sample traffic, the marks by hand, and on small streams "complete" and row
-51 against texts.py.
+Run as a program, it tries 01's sample traffic, the marks and the digits that wait by hand, and on small
+streams "complete" and row 51 against texts.py.
 """
 
 import sys
@@ -19,8 +19,9 @@ MARK = {code: 1 << i for i, code in enumerate(PICTURES)}
 ALL_MARKS = sum(MARK.values())
 
 # "header and modes": "all else 0"
-NO_HEADER = texts.Header(time=(0,) * 12, radars=(0,) * 8, clock=0, picture=0, mode=0, noecho=False)
+NO_HEADER = texts.Header(minute=0, radars=(0,) * 8, clock=0, picture=0, mode=0, noecho=False)
 NO_MODES = (0,) * 8
+NO_DIGITS = (0,) * 12
 NO_GRID = bytes(GRID)
 
 # Looked up instead of worked out for each byte: a byte as bytes, the block length of a kind, and
@@ -28,11 +29,14 @@ NO_GRID = bytes(GRID)
 ONE = [bytes([b]) for b in range(256)]
 LENGTH = {kind: texts.block_length(kind) for kind in KINDS}
 ALLOWED = {part: [texts.is_payload_byte(part, b) for b in range(256)] for part in texts.PARTS}
-# The place in a start block of each digit, and its number among the twelve digits
+# The byte of a start block that is each digit, and its number among the twelve digits
 DIGIT = {}
 for _i, _letter in enumerate(texts.TIME_FORM):
     if _letter != ".":
         DIGIT[8 + _i] = len(DIGIT)
+# Request 111: "at places 9 to 23 of a start text". Place counts the bytes taken, so byte 8 leaves place 9, and byte
+# 23 place 24
+WAITING = range(9, 24)
 
 
 # The marks of these picture codes, and of no others
@@ -64,9 +68,10 @@ def due_after(part, text, noecho):
 
 
 class Receiver:
-    """The state as 01 and Request 101 list it, and the grid: "a lent slice of 20,000 bytes"."""
+    """The state as 01 and Requests 101 and 111 list it, and the grid: "a lent slice of 20,000 bytes"."""
 
-    __slots__ = ("marks", "seen", "place", "kind", "picture", "part", "due", "check", "header", "modes", "grid")
+    __slots__ = ("marks", "seen", "place", "kind", "picture", "part", "due", "check", "digits", "header", "modes",
+                 "grid")
 
     # "Fresh: nothing seen, place 0, no part, all else 0, grid all 0." Request 101: "A fresh receiver is made
     # from marks and keeps them for good", so nothing below sets them; "the listening program's has all
@@ -91,6 +96,7 @@ class Receiver:
         self.part = 0  # "the part open or none"
         self.due = 0  # "0 with no part open"
         self.check = 0  # "the running check byte (0 at place 0)"
+        self.digits = NO_DIGITS  # Request 111: "wait in the state until byte 23 and are 0 from then on"
         self.header = NO_HEADER
         self.modes = NO_MODES
         self.grid[:] = NO_GRID
@@ -202,9 +208,18 @@ class Receiver:
                 return b == 0x2E
             if not 0x30 <= b <= 0x39:
                 return False
-            time = put(header.time, DIGIT[place], b - 0x30)
-            self.header = header._replace(time=time)
-            return place != 23 or texts.is_time(time)
+            digits = put(self.digits, DIGIT[place], b - 0x30)
+            if place != 23:
+                self.digits = digits
+                return True
+            # Request 111: "The digits wait in the state until byte 23 and are 0 from then on", and "The header
+            # keeps that number instead of the digits". Until then it is as the start kind set it, 0
+            minute = texts.minute_of(digits)
+            if minute is None:
+                return False
+            self.digits = NO_DIGITS
+            self.header = header._replace(minute=minute)
+            return True
         # "Bytes 24 to 31 are one to eight radar codes, strictly rising, then `00`."
         i = place - 24
         self.header = header._replace(radars=put(header.radars, i, b))
@@ -285,6 +300,12 @@ class Receiver:
         if self.picture != 0 if self.place <= 1 else not texts.is_picture_code(self.picture):
             return 2
         if self.check != 0 if self.place == 0 else not 0 <= self.check <= 255:
+            return 2
+        # Request 111: "a digit above 9, or one not 0 other than at places 9 to 23 of a start text". What the digits
+        # are that have still to come there, it does not say
+        if not all(0 <= digit <= 9 for digit in self.digits):
+            return 2
+        if any(self.digits) and not (texts.is_start_kind(self.kind) and self.place in WAITING):
             return 2
         # "a read kind not the due one of an open part, or not a start kind with none"
         if self.kind != 0:
@@ -376,7 +397,7 @@ def _short_part(picture):
 
 # The three texts of a quality part of this picture, of 40, 111 and 40 bytes
 def _quality_texts(picture):
-    header = texts.Header((1, 9, 9, 9, 0, 6, 0, 7, 1, 2, 1, 0), (0xA5, *(0,) * 7), 9983, picture, 1, False)
+    header = texts.Header(-298_790, (0xA5, *(0,) * 7), 9983, picture, 1, False)
     part = texts.make_part(texts.QUALITY, header, (1, *(0,) * 7), bytes(range(0x1D, 0x81)))
     return part[:40], part[40:151], part[151:]
 
@@ -476,6 +497,105 @@ def _marks_stay():
         assert _state(receiver) == _state(alone) and receiver.marks == 128
 
 
+# ---- Request 111 by hand
+
+# Digits as numbers
+def _digits(text):
+    return tuple(map(int, text))
+
+
+# The digits of S, 1999.06.07.12.10, that wait after each byte of its start block from byte 8 to byte 22; the others
+# are still 0, as all are before and after
+WAIT = ("1", "19", "199", "1999", "1999", "19990", "199906", "199906", "1999060", "19990607", "19990607", "199906071",
+        "1999060712", "1999060712", "19990607121")
+
+
+def _digits_wait():
+    receiver = Receiver()
+    for place, b in enumerate(SAMPLE_START[:37], -4):
+        assert receiver.byte(b) == 0 and receiver.place == max(0, place) and receiver.refusal() == 0
+        waiting = WAIT[place - 9] if place in WAITING else ""
+        assert receiver.digits == _digits(waiting.ljust(12, "0"))
+        # "the fields .. then enter as they come": the minute with byte 23, after the clock and before the radars
+        assert receiver.header.minute == (-298_790 if place >= 24 else 0)
+        assert receiver.header.clock == (9983 if place >= 8 else 77 * 128 if place == 7 else 0)
+        assert receiver.header.radars[0] == (0xA5 if place >= 25 else 0)
+    assert [receiver.byte(b) for b in SAMPLE_START[37:]] == [0, 0, 1]
+    assert receiver.header.minute == -298_790 and receiver.digits == NO_DIGITS
+    # An open part's header stays while its end text comes, and a start kind sets it to 0 (row 15)
+    for b in SAMPLE_END[:7]:
+        assert receiver.byte(b) == 0 and receiver.header.minute == -298_790
+    assert receiver.byte(0x30) == 15 and receiver.header.minute == 0
+
+
+# S with another time; the check byte is that of the changed block
+def _with_time(time):
+    return texts.make_text(SAMPLE_START[5:13] + texts.time_bytes(_digits(time)) + SAMPLE_START[29:-3])
+
+
+# By hand: the minute that a time gives, or None for row 18 at byte 23; dropping leaves no digit and no minute
+def _times():
+    times = {
+        "000001010000": -1_051_898_400, "000002290000": -1_051_813_440, "999912312359": 4_207_593_599,
+        "199912312359": -1, "200001010000": 0, "200001010001": 1, "200002290000": 84_960, "200002292359": 86_399,
+        "200003010000": 86_400, "190002282359": -52_509_601, "190003010000": -52_509_600,
+        "210002282359": 52_680_959, "210003010000": 52_680_960, "198708151215": -6_510_945,
+        "199902290000": None, "190002290000": None, "210002290000": None, "200002300000": None, "200012312400": None,
+        "200000010000": None, "200001000000": None, "200013010000": None, "200001010060": None, "000000000000": None,
+        "999999999999": None,
+    }
+    # 9 in every place of S's time: no month 96, day 97, hour 92 and minute 90
+    years = {"999906071210": 4_207_294_810, "199906071210": -298_790}
+    nines = {**years, "199996071210": None, "199909071210": -166_310, "199906971210": None, "199906091210": -295_910,
+             "199906079210": None, "199906071910": -298_370, "199906071290": None, "199906071219": -298_781}
+    for time, minute in (times | nines).items():
+        receiver, begun = Receiver(), _with_time(time)
+        assert [receiver.byte(b) for b in begun[:28]] == [0] * 28
+        assert receiver.digits == _digits(time[:11] + "0") and receiver.header.minute == 0
+        assert receiver.byte(begun[28]) == (18 if minute is None else 0)
+        assert receiver.digits == NO_DIGITS and receiver.header.minute == (minute or 0)
+        if minute is None:
+            assert receiver.place == 0 and receiver.header == NO_HEADER
+        assert listen(begun + SAMPLE_END) == ([(29, 18), (48, 16)] if minute is None else [(40, 1), (80, 3)])
+    # A digit or a stop at its own byte: what waited is dropped with the rest
+    for place in range(8, 24):
+        for b in (0x2F, 0x3A, 0x30 if place not in DIGIT else 0x2E, 0x16):
+            receiver = _after(SAMPLE_START[:5 + place], ALL_MARKS)
+            assert receiver.byte(b) == 18 and receiver.digits == NO_DIGITS and receiver.header == NO_HEADER
+
+
+# Refusal 2: place, kind, part, due text; digits; the refusal
+def _refused_digits():
+    first, last, nines = (1, *(0,) * 11), (*(0,) * 11, 1), (9,) * 12
+    tries = [
+        *((place, kind, 0, 0, digits, 0) for place in (9, 16, 23) for kind in (0x10, 0x20, 0x30)
+          for digits in (NO_DIGITS, first, last, nines)),
+        *((place, 0x10, 0, 0, digits, 2) for place in (8, 24, 34) for digits in (first, last, nines)),
+        *((place, 0x10, 0, 0, put(NO_DIGITS, i, b), 2) for place in (9, 23) for i in range(12) for b in (10, 255)),
+        *((place, 0, part, due, digits, 2) for place in (0, 1, 2) for part, due in ((0, 0), (1, 11), (2, 1))
+          for digits in (first, last)),
+        *((12, kind, part, due, digits, 2 if any(digits) else 0) for digits in (NO_DIGITS, first, last)
+          for kind, part, due in ((0x1F, 1, 11), (0x11, 1, 1), (0x21, 2, 1), (0x3F, 3, 11))),
+    ]
+    for place, kind, part, due, digits, wanted in tries:
+        receiver = Receiver()
+        receiver.place, receiver.kind, receiver.part, receiver.due, receiver.digits = place, kind, part, due, digits
+        receiver.picture = 0xCC if place >= 2 else 0
+        assert receiver.refusal() == wanted
+        receiver.grid = bytearray(GRID + 1)
+        assert receiver.refusal() == 1
+    # Digits that wait come about with no other bytes; but an opening among them is found (row 11), and they are dropped
+    receiver = _after(SAMPLE_START[:20], ALL_MARKS)
+    assert receiver.digits == _digits("199906000000")
+    receiver.seen = CONTROL
+    assert receiver.byte(FD) == 11 and receiver.place == 1 and receiver.digits == NO_DIGITS
+    # Those still to come are taken as they come, whatever stood there
+    receiver = _after(SAMPLE_START[:20], ALL_MARKS)
+    receiver.digits = _digits("199906999999")
+    assert receiver.refusal() == 0 and [receiver.byte(b) for b in SAMPLE_START[20:]] == [0] * 19 + [1]
+    assert receiver.header.minute == -298_790
+
+
 # ---- Against texts.py
 
 # Byte by byte: no state comes about that row 2 would refuse, and the marks stay; 51 exactly at an unmarked code;
@@ -502,7 +622,7 @@ def _against_texts(data, marks=ALL_MARKS):
 # each place in turn: none of these is complete
 def _parts():
     header = texts.Header(
-        time=(2, 0, 0, 0, 0, 2, 2, 9, 2, 3, 5, 9),
+        minute=86_399,
         radars=(0xA0, 0xB6, 0, 0, 0, 0, 0, 0),
         clock=9983,
         picture=0xF1,
@@ -533,4 +653,7 @@ if __name__ == "__main__":
     _row_51()
     _openings_and_51()
     _marks_stay()
+    _digits_wait()
+    _times()
+    _refused_digits()
     _parts()

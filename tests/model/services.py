@@ -1,12 +1,12 @@
-"""01-scope.md, section "Services", with Requests 101, 106 and 110, as plain functions.
+"""01-scope.md, section "Services", with Requests 101, 106, 110 and 111, as plain functions.
 
 Written from these papers alone, on texts.py and receiver.py, the models of 01's sections "A text" (with
-Request 107) and "The receiver" (with Request 101): nothing here is taken from the library or from its
-definitions. A grid is bytes; a mesh number, a level and a clock are numbers. A service gives its value, or
+Requests 107 and 111) and "The receiver" (with Requests 101 and 111): nothing here is taken from the library or from
+its definitions. A grid is bytes; a mesh number, a level and a clock are numbers. A service gives its value, or
 `Refused` with the row of 01's table: "A service's refusal carries no value." What stands in quotes is 01's, and
 after "Request 106:" or "Request 110:" that request's; 106's bytes left take the place of what 01 leaves free.
-Request 101 makes more states impossible. Which bytes are an undamaged part it leaves to 01, so that a stored part
-of any picture has its payload, whatever a receiver's marks.
+Requests 101 and 111 make more states impossible. Which bytes are an undamaged part they leave to 01, so that a
+stored part of any picture has its payload, whatever a receiver's marks.
 
 Run as a program, it tries what the papers' figures settle by hand, and Request 110's claim on random grids.
 """
@@ -171,7 +171,7 @@ def _clocks():
 
 # An intensity part whose data texts are full of their own numbers
 def _payloads():
-    header = texts.Header((1, 9, 9, 9, 0, 6, 0, 7, 1, 2, 1, 0), (0xA5, *(0,) * 7), 9983, 0xCC, 1, False)
+    header = texts.Header(-298_790, (0xA5, *(0,) * 7), 9983, 0xCC, 1, False)
     payload = b"".join(bytes([k]) * 2000 for k in range(1, 11))
     data = texts.make_part(INTENSITY, header, (1, *(0,) * 7), payload)
     for k in range(1, 11):
@@ -226,6 +226,21 @@ def _marks():
         assert bytes_left(receiver) == 0
 
 
+# Request 111: digits that wait where none may are not possible, nor is one above 9. At place 9 to 23 of a start text,
+# which has 32 bytes and 3 behind them, 35 less the place are left
+def _digits():
+    first, last = (9, *(0,) * 11), (*(0,) * 11, 1)
+    for place, digits, wanted in ((8, (0,) * 12, 27), (8, first, Refused(2)), (9, first, 26), (17, (9,) * 12, 18),
+                                  (17, (10, *(0,) * 11), Refused(2)), (23, last, 12), (24, last, Refused(2)),
+                                  (24, (0,) * 12, 11)):
+        receiver = Receiver()
+        receiver.place, receiver.kind, receiver.picture, receiver.digits = place, 0x10, 0xCC, digits
+        assert bytes_left(receiver) == wanted
+    receiver = Receiver()
+    receiver.digits = last
+    assert bytes_left(receiver) == Refused(2)
+
+
 if __name__ == "__main__":
     _grids()
     _orders()
@@ -233,3 +248,4 @@ if __name__ == "__main__":
     _payloads()
     _left()
     _marks()
+    _digits()

@@ -1,17 +1,22 @@
-"""01-scope.md, section "A text", with request #107, as plain functions.
+"""01-scope.md, section "A text", with requests #107 and #111, as plain functions.
 
 Written from these papers alone: nothing here is taken from the library or from its definitions.
 Blocks, texts and parts are bytes; lists of digits, radar codes and modes are tuples of numbers.
 A part is 1 (intensity), 2 (echo top) or 3 (quality). A text's number within its part is 0 for the
-start text, k for data text k and 11 for the end text. Where an argument names no part, text, kind,
-mode or month, a number is 0 and a test is False. What stands in quotes is 01's, and after "#107:"
-that request's, whose sheet for the quality bits takes the place of 01's.
+start text, k for data text k and 11 for the end text. The minute of an observation time is a signed
+count from 1 January 2000, 00:00. Where an argument names no part, text, kind, mode, month or minute,
+a number is 0 and a test is False. What stands in quotes is 01's, and after "#107:" or "#111:" that
+request's. The sheet of #107 for the quality bits takes the place of 01's.
 
 Run as a program, it tries the rows of "Sample traffic" that are marked P, those of quality as #107 has
-them, and 01's figures.
+them, 01's figures, and minutes: some by hand, and many more against Python's own calendar.
 """
 
+import datetime
+import random
+from bisect import bisect_right
 from collections import namedtuple
+from itertools import accumulate
 
 INTENSITY, TOP, QUALITY = 1, 2, 3
 PARTS = (INTENSITY, TOP, QUALITY)
@@ -28,11 +33,12 @@ EDGE_BLOCK = 32
 # "The grid is a lent slice of 20,000 bytes."
 GRID = 20_000
 
-# "header (without status bytes)": the twelve digits YYYYMMDDhhmm, the radar codes and then 0
-WriterHeader = namedtuple("WriterHeader", "time radars clock picture")
+# "header (without status bytes)": the minute, the radar codes and then 0. #111: "The header keeps that
+# number instead of the digits"
+WriterHeader = namedtuple("WriterHeader", "minute radars clock picture")
 # "A part's header is the picture code, clock, time, radar codes, NO ECHO and mode that its start
 # block gives."
-Header = namedtuple("Header", "time radars clock picture mode noecho")
+Header = namedtuple("Header", "minute radars clock picture mode noecho")
 
 
 # ---- Codes
@@ -231,12 +237,46 @@ def is_moment(year, month, day, hour, minute):
     return date and 0 <= hour <= 23 and 0 <= minute <= 59
 
 
-# The same of the twelve digits of `YYYY.MM.DD.hh.mm`, as numbers
-def is_time(digits):
+# The days from 1 January 2000 to 1 January of the years 0000 to 10000, by year: the days of all months
+# before, from the first year on, and less as many as stand at 2000
+YEAR_DAYS = [0, *accumulate(sum(days_in(year, month) for month in range(1, 13)) for year in range(10_000))]
+YEAR_DAYS = [days - YEAR_DAYS[2000] for days in YEAR_DAYS]
+
+# 24 hours of 60 minutes
+DAY = 24 * 60
+# "years 0000 to 9999": the first of their minutes, and the last
+FIRST_MINUTE, LAST_MINUTE = YEAR_DAYS[0] * DAY, YEAR_DAYS[10_000] * DAY - 1
+
+
+# #111: "let it give the signed count of minutes from 1 January 2000, 00:00, or invalid", here None; of
+# the twelve digits of `YYYY.MM.DD.hh.mm`, as numbers
+def minute_of(digits):
     if len(digits) != 12 or not all(0 <= d <= 9 for d in digits):
-        return False
+        return None
     text = "".join(map(str, digits))
-    return is_moment(int(text[:4]), *(int(text[i:i + 2]) for i in (4, 6, 8, 10)))
+    year, month, day, hour, minute = int(text[:4]), *(int(text[i:i + 2]) for i in (4, 6, 8, 10))
+    if not is_moment(year, month, day, hour, minute):
+        return None
+    days = YEAR_DAYS[year] + sum(days_in(year, before) for before in range(1, month)) + day - 1
+    return days * DAY + hour * 60 + minute
+
+
+# #111: "32 also covers a minute outside years 0000 to 9999"
+def is_minute(minute):
+    return FIRST_MINUTE <= minute <= LAST_MINUTE
+
+
+# The twelve digits YYYYMMDDhhmm of a minute; all 0 outside years 0000 to 9999
+def digits_of(minute):
+    if not is_minute(minute):
+        return (0,) * 12
+    days, clock = divmod(minute, DAY)
+    year, month = bisect_right(YEAR_DAYS, days) - 1, 1
+    days -= YEAR_DAYS[year]
+    while days >= days_in(year, month):
+        days -= days_in(year, month)
+        month += 1
+    return tuple(map(int, f"{year:04}{month:02}{days + 1:02}{clock // 60:02}{clock % 60:02}"))
 
 
 # The form of bytes 8 to 23: a letter for a digit, and the stop
@@ -258,6 +298,12 @@ def time_digits(field):
         if form != ".":
             digits.append(b - 0x30)
     return tuple(digits)
+
+
+# The minute of "Bytes 8 to 23"; None where they break a rule
+def minute_of_field(field):
+    digits = time_digits(field)
+    return None if digits is None else minute_of(digits)
 
 
 # ---- Payload
@@ -322,7 +368,7 @@ def is_writer_header(writer_header):
     return (
         is_picture_code(writer_header.picture)
         and is_clock(writer_header.clock)
-        and is_time(writer_header.time)
+        and is_minute(writer_header.minute)
         and is_radar_list(writer_header.radars)
     )
 
@@ -343,7 +389,7 @@ def is_payload(part, payload):
 
 # "header (without status bytes)"
 def writer_header_of(header):
-    return WriterHeader(header.time, header.radars, header.clock, header.picture)
+    return WriterHeader(header.minute, header.radars, header.clock, header.picture)
 
 
 # ---- Blocks
@@ -363,14 +409,12 @@ def has_front(block, kind):
 def is_start_block(block):
     if len(block) != EDGE_BLOCK or not has_front(block, block[2]) or text_of_kind(block[2]) != START:
         return False
-    digits = time_digits(block[8:24])
     return (
         block[3] == 0
         and mode_of(block[5]) != 0
         and is_clock_byte(block[6])
         and is_clock_byte(block[7])
-        and digits is not None
-        and is_time(digits)
+        and minute_of_field(block[8:24]) is not None
         and is_radar_list(tuple(block[24:32]))
     )
 
@@ -404,7 +448,7 @@ def is_block(block):
 # "the picture code, clock, time, radar codes, NO ECHO and mode that its start block gives"
 def header_of_block(block):
     return Header(
-        time=time_digits(block[8:24]),
+        minute=minute_of_field(block[8:24]),
         radars=tuple(block[24:32]),
         clock=clock_of(block[6], block[7]),
         picture=block[1],
@@ -490,12 +534,13 @@ def grid_of_part(data):
 
 # ---- Building
 
-# "Start block", as it gives this header; "Meaningless bits are 0."
+# "Start block", as it gives this header; "Meaningless bits are 0." #111: "The written bytes are those of
+# before."
 def start_block(part, header):
     return (
         bytes([FD, header.picture, kind_of(part, START), 0, header.noecho << 3, mode_byte(header.mode)])
         + clock_bytes(header.clock)
-        + time_bytes(header.time)
+        + time_bytes(digits_of(header.minute))
         + bytes(header.radars)
     )
 
@@ -543,7 +588,7 @@ def _quality():
 # "Sample traffic", the rows marked P; counts of codes and kinds, and lengths of parts and payloads
 def _samples():
     assert clock_bytes(9983) == bytes.fromhex("4D 7F") and clock_of(0x4D, 0x7F) == 9983
-    assert is_time(time_digits(b"1987.08.15.12.15"))
+    assert minute_of_field(b"1987.08.15.12.15") is not None
     assert is_moment(2000, 2, 29, 0, 0) and not is_moment(1999, 2, 29, 0, 0)
     assert levels(0x1E) == (1, 14)
     assert [is_payload_byte(INTENSITY, b) for b in (0xEE, 0xEF, 0xF0)] == [True, False, False]
@@ -561,9 +606,72 @@ def _samples():
     part = make_text(start) + make_text(end)
     assert undamaged_text(make_text(start)) and undamaged_text(make_text(end)) and undamaged_part(part)
     header = header_of_part(part)
+    assert header == Header(-298_790, (0xA5, *(0,) * 7), 9983, 0xCC, 1, True)
     assert part == written_part(INTENSITY, writer_header_of(header), modes_of_part(part), bytes(20_000))
+
+
+# #111: "1999.12.31.23.59 is −1", and others by hand: from both sides of 2000, of leap days, and of the days that are
+# none in 1900 and 2100; those of 01; the first and the last
+MINUTES = {
+    "1999.12.31.23.59": -1, "2000.01.01.00.00": 0, "2000.01.01.00.01": 1, "2000.01.01.23.59": 1_439,
+    "2000.01.02.00.00": 1_440, "1999.12.31.00.00": -1_440, "1999.12.30.23.59": -1_441,
+    "2000.02.28.23.59": 84_959, "2000.02.29.00.00": 84_960, "2000.02.29.23.59": 86_399, "2000.03.01.00.00": 86_400,
+    "1987.08.15.12.15": -6_510_945, "1999.06.07.12.10": -298_790,
+    "1900.02.28.23.59": -52_509_601, "1900.03.01.00.00": -52_509_600,
+    "2100.02.28.23.59": 52_680_959, "2100.03.01.00.00": 52_680_960,
+    "0000.01.01.00.00": -1_051_898_400, "0000.02.29.00.00": -1_051_813_440, "9999.12.31.23.59": 4_207_593_599,
+}
+# No leap day in 1999, 1900 and 2100; no 30 February; month and day 00, month 13, day 32 and 31 June; 24:00, minute
+# 60; all 0 and all 9
+NO_MINUTES = (
+    *("1999.02.29.00.00", "1900.02.29.00.00", "2100.02.29.00.00", "2000.02.30.00.00", "2000.00.01.00.00"),
+    *("2000.01.00.00.00", "2000.13.01.00.00", "2000.12.32.00.00", "2000.06.31.00.00", "1999.12.31.24.00"),
+    *("2000.01.01.23.60", "0000.00.00.00.00", "9999.99.99.99.99"),
+)
+
+
+def _minutes():
+    for text, minute in MINUTES.items():
+        digits = tuple(int(c) for c in text if c != ".")
+        assert minute_of(digits) == minute_of_field(text.encode()) == minute and is_minute(minute)
+        assert digits_of(minute) == digits and time_bytes(digits) == text.encode()
+    assert all(minute_of_field(text.encode()) is None for text in NO_MINUTES)
+    assert (FIRST_MINUTE, LAST_MINUTE) == (-1_051_898_400, 4_207_593_599)
+    for minute in (FIRST_MINUTE - 1, LAST_MINUTE + 1, -2 ** 63, 2 ** 63 - 1):
+        assert not is_minute(minute) and digits_of(minute) == (0,) * 12
+    # A digit above 9, though the number that it would give is one
+    assert minute_of((1, 9, 8, 7, 0, 8, 1, 5, 0, 12, 1, 5)) is None and minute_of((0,) * 11) is None
+
+
+# Years 0001 to 9999 against Python's own calendar: the first day of each month, and random minutes. Year 0000, which
+# it has not, is 400 years of 146,097 days before year 0400
+def _calendar():
+    rng = random.Random(111)
+    begin = datetime.datetime(2000, 1, 1)
+    for year in range(1, 10_000):
+        for month in range(1, 13):
+            digits = tuple(map(int, f"{year:04}{month:02}010000"))
+            assert minute_of(digits) == (datetime.date(year, month, 1) - begin.date()).days * DAY
+    for _ in range(20_000):
+        minute = rng.randint(YEAR_DAYS[1] * DAY, LAST_MINUTE)
+        moment = begin + datetime.timedelta(minutes=minute)
+        text = f"{moment.year:04}.{moment:%m.%d.%H.%M}"
+        assert minute_of_field(text.encode()) == minute and time_bytes(digits_of(minute)) == text.encode()
+    for minute in range(FIRST_MINUTE, YEAR_DAYS[1] * DAY, 61):
+        digits, later = digits_of(minute), digits_of(minute + 146_097 * DAY)
+        assert digits[:4] == (0, 0, 0, 0) and later[:4] == (0, 4, 0, 0) and digits[4:] == later[4:]
+        assert minute_of(digits) == minute
+    # Digits that are no minute: as many days in each year as there are, and no other day, hour or minute
+    for year in (0, 1900, 1999, 2000, 2004, 9999):
+        days = [tuple(map(int, f"{year:04}{month:02}{day:02}0000")) for month in range(100) for day in range(100)]
+        found = [minute_of(digits) for digits in days if minute_of(digits) is not None]
+        assert found == list(range(YEAR_DAYS[year] * DAY, YEAR_DAYS[year + 1] * DAY, DAY))
+    clocks = [minute_of((2, 0, 0, 0, 0, 1, 0, 1, *map(int, f"{clock:04}"))) for clock in range(10_000)]
+    assert [minute for minute in clocks if minute is not None] == list(range(DAY))
 
 
 if __name__ == "__main__":
     _samples()
     _quality()
+    _minutes()
+    _calendar()

@@ -23,7 +23,7 @@ static expecter *expect;
 static void put_part(uint8_t *out, int part, const uint8_t *payload)
 {
     static const struct header header = {
-        .picture = 0xCC, .clock = 9983, .time = {1, 9, 9, 9, 0, 6, 0, 7, 1, 2, 1, 0}, .radars = {0xA5}};
+        .picture = 0xCC, .clock = 9983, .minute = -298790, .radars = {0xA5}};
     static const uint8_t modes[RADARS] = {1};
     struct writing what = {part, &header, modes, payload, payload_length(part)};
     size_t length;

@@ -1,5 +1,7 @@
 #include "damage.h"
 
+#include "time_limits.h"
+
 #include <string.h>
 
 /* ---- likely bytes and near-openings ---- */
@@ -71,22 +73,13 @@ static void wrong_kind(struct numbers *n, struct draft *draft)
         block[AT_KIND] = chance(n, 80) ? one_of(n, kinds, sizeof kinds) : any_byte(n);
 }
 
-/* Dates and times one step inside or outside, written out so that they do not
-   hang on this model's own idea of a date, and characters beside the digits. */
+/* A time at a limit, on either side of it, or a character beside the digits. */
 static void odd_time(struct numbers *n, struct draft *draft)
 {
-    static const char *const odd[] = {
-        "0000.02.29.00.00", "0400.02.29.23.59", "2000.02.29.12.00", "9996.02.29.00.01",
-        "0000.01.01.00.00", "9999.12.31.23.59", "1999.02.28.20.09", "2000.10.31.19.50",
-        "1999.02.29.00.00", "1900.02.29.12.00", "2100.02.29.23.59", "9999.02.29.00.01",
-        "2000.02.30.12.00", "1999.04.31.10.10", "1999.06.31.10.10", "1999.09.31.10.10",
-        "1999.11.31.10.10", "1999.01.32.00.00", "1999.00.01.00.00", "1999.13.01.00.00",
-        "1999.12.00.00.00", "1999.12.31.24.00", "1999.12.31.23.60", "1999.12.31.29.99",
-        "0000.00.00.00.00", "9999.99.99.99.99", "1999.20.10.10.10", "0100.02.29.00.00"};
     static const uint8_t beside[] = {0x2F, 0x3A, 0x2E, 0x20, 0xB0, 0x30, 0x39, 0x00, 0x16, 0xFD};
     uint8_t *block = start_block(draft);
     if (chance(n, 70)) {
-        memcpy(block + AT_TIME, odd[below(n, sizeof odd / sizeof odd[0])], TIME_BYTES);
+        memcpy(block + AT_TIME, time_limit(below(n, time_limits()))->text, TIME_BYTES);
     } else {
         size_t at = between(n, AT_TIME, AT_TIME_LAST);
         block[at] = one_of(n, beside, sizeof beside);
@@ -237,6 +230,12 @@ void damage_quality(struct numbers *n, struct draft *draft)
     mend_check(data);
     if (chance(n, 50))
         data->bytes[data->length - 2] ^= (uint8_t)(1u << below(n, 8));
+}
+
+void set_time(struct draft *draft, const char *time)
+{
+    memcpy(start_block(draft) + AT_TIME, time, TIME_BYTES);
+    mend_check(&draft->texts[0]);
 }
 
 /* ---- order of texts ---- */

@@ -13,6 +13,9 @@ void damage_field(struct numbers *n, struct draft *draft);
    right check byte or a wrong one. */
 void damage_quality(struct numbers *n, struct draft *draft);
 
+/* The start text has this time, YYYY.MM.DD.hh.mm, under its right check byte. */
+void set_time(struct draft *draft, const char *time);
+
 /* Whole texts lost, doubled, swapped, or taken from another part. */
 void damage_order(struct numbers *n, struct draft *draft, const struct draft *other);
 

@@ -1,5 +1,8 @@
 #include "draft.h"
 
+#include "time_limits.h"
+
+#include <stdio.h>
 #include <string.h>
 
 uint8_t *block_of(struct text *text)
@@ -19,14 +22,6 @@ void mend_check(struct text *text)
 
 /* ---- header ---- */
 
-static void put_digits(uint8_t *digits, unsigned value, int count)
-{
-    for (int i = count - 1; i >= 0; i--) {
-        digits[i] = (uint8_t)(value % 10);
-        value /= 10;
-    }
-}
-
 static unsigned some_year(struct numbers *n)
 {
     static const unsigned odd_years[] = {0, 9999, 4, 100, 400, 1900, 1999, 2000, 2004, 2100};
@@ -35,21 +30,34 @@ static unsigned some_year(struct numbers *n)
     return (unsigned)(chance(n, 50) ? between(n, 1980, 2030) : below(n, 10000));
 }
 
+/* One of the list that is a time. */
+static int64_t minute_at_limit(struct numbers *n)
+{
+    int64_t minute = 0;
+    const struct time_limit *limit;
+    do
+        limit = time_limit(below(n, time_limits()));
+    while (!limit->valid || !read_time((const uint8_t *)limit->text, &minute));
+    return minute;
+}
+
 /* First, last and leap days often; the day is lowered until the date is right,
    which gives the last day of a month its share. */
-static void some_time(struct numbers *n, uint8_t time[TIME_DIGITS])
+static int64_t some_minute(struct numbers *n)
 {
+    if (chance(n, 25))
+        return minute_at_limit(n);
     unsigned month = chance(n, 30) ? 2 : (unsigned)between(n, 1, 12);
     unsigned day = chance(n, 25) ? 1 : chance(n, 50) ? 31 : (unsigned)between(n, 1, 31);
-    unsigned hour = chance(n, 20) ? 23 : (unsigned)below(n, 24);
-    unsigned minute = chance(n, 20) ? 59 : (unsigned)below(n, 60);
-    put_digits(time, some_year(n), 4);
-    put_digits(time + 4, month, 2);
-    put_digits(time + 8, hour, 2);
-    put_digits(time + 10, minute, 2);
+    unsigned of_hour = chance(n, 20) ? 23 : (unsigned)below(n, 24);
+    unsigned of_minute = chance(n, 20) ? 59 : (unsigned)below(n, 60);
+    unsigned year = some_year(n);
+    char text[60]; /* more than the 16 bytes, for any number */
+    int64_t minute;
     do
-        put_digits(time + 6, day--, 2);
-    while (!is_date_and_time(time));
+        snprintf(text, sizeof text, "%04u.%02u.%02u.%02u.%02u", year, month, day--, of_hour, of_minute);
+    while (!read_time((const uint8_t *)text, &minute));
+    return minute;
 }
 
 /* Between one and eight codes of the list, in its rising order. */
@@ -78,7 +86,7 @@ static void some_header(struct numbers *n, const struct habits *habits, struct d
     header->picture = chance(n, 70) ? one_of(n, habits->favourites, FAVOURITES)
                                     : one_of(n, PICTURES, PICTURE_CODES);
     header->clock = (uint16_t)(chance(n, 15) ? 0 : chance(n, 15) ? CLOCKS - 1 : below(n, CLOCKS));
-    some_time(n, header->time);
+    header->minute = some_minute(n);
     some_radars(n, header->radars);
     some_modes(n, header->radars, draft->modes);
     header->mode = (uint8_t)highest_mode(draft->modes);

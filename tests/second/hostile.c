@@ -2,6 +2,7 @@
 
 #include "damage.h"
 #include "draft.h"
+#include "time_limits.h"
 
 #include <stdio.h>
 #include <stdlib.h>
@@ -12,6 +13,7 @@ struct stage {
     struct numbers numbers;
     struct habits habits;
     struct bytes *stream;
+    size_t limit; /* of the times at limits, the next one */
     struct draft one;
     struct draft two;
 };
@@ -36,6 +38,38 @@ static void quality_at_limits(struct stage *s)
     for (size_t i = between(&s->numbers, 2, 4); i > 0; i--) {
         draft_quality(&s->numbers, &s->habits, &s->one);
         damage_quality(&s->numbers, &s->one);
+        add_draft(s->stream, &s->one);
+    }
+}
+
+/* A short part: without data texts, or of quality now and then. */
+static void draft_short(struct stage *s)
+{
+    struct numbers *n = &s->numbers;
+    if (chance(n, 10))
+        draft_quality(n, &s->habits, &s->one);
+    else
+        draft_sort(n, &s->habits, chance(n, 50) ? INTENSITY : ECHO_TOP, true, &s->one);
+}
+
+/* Breaks off in its time, where digits wait, or right behind it; what comes next
+   is no byte of either. */
+static void time_cut_short(struct stage *s)
+{
+    size_t until = CONTROL_BYTES + between(&s->numbers, AT_TIME + 1, AT_TIME_LAST + 1);
+    draft_short(s);
+    add_bytes(s->stream, s->one.texts[0].bytes, until);
+}
+
+/* A limit of the time is a single minute, which chance would not meet: the list
+   is gone through, a stretch of it each time. */
+static void times_at_limits(struct stage *s)
+{
+    for (size_t i = between(&s->numbers, 8, 14); i > 0; i--) {
+        if (chance(&s->numbers, 10))
+            time_cut_short(s);
+        draft_short(s);
+        set_time(&s->one, time_limit(s->limit++)->text);
         add_draft(s->stream, &s->one);
     }
 }
@@ -188,9 +222,10 @@ struct share {
 
 /* Together 100.  About half of all parts sent come through complete. */
 static const struct share SHARES[] = {
-    {whole_part, 38},
-    {part_with_wrong_field, 16},
-    {part_with_wrong_bytes, 12},
+    {whole_part, 35},
+    {part_with_wrong_field, 15},
+    {part_with_wrong_bytes, 11},
+    {times_at_limits, 5},
     {quality_at_limits, 4},
     {part_with_wrong_order, 6},
     {payload_cut_short, 5},
@@ -241,6 +276,7 @@ void generate_with(uint64_t seed, const struct habits *habits, size_t length, st
     s->numbers.state = seed;
     s->habits = *habits;
     s->stream = stream;
+    s->limit = below(&s->numbers, time_limits());
     size_t before = stream->length;
     while (stream->length - before < length) {
         draft_part(&s->numbers, &s->habits, &s->one);

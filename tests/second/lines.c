@@ -13,6 +13,16 @@ void add_number(struct bytes *text, char before, unsigned long long number)
     add_bytes(text, (const uint8_t *)digits + at, sizeof digits - at);
 }
 
+void add_signed(struct bytes *text, char before, int64_t number)
+{
+    if (number >= 0) {
+        add_number(text, before, (unsigned long long)number);
+        return;
+    }
+    add_byte(text, (uint8_t)before);
+    add_number(text, '-', 0 - (unsigned long long)number);
+}
+
 void add_word(struct bytes *text, const char *word)
 {
     add_bytes(text, (const uint8_t *)word, strlen(word));
@@ -27,8 +37,7 @@ static void add_held(struct bytes *text, const struct event *event)
     add_number(text, ' ', header->clock);
     add_number(text, ' ', header->no_echo);
     add_number(text, ' ', header->mode);
-    for (int i = 0; i < TIME_DIGITS; i++)
-        add_number(text, ' ', header->time[i]);
+    add_signed(text, ' ', header->minute);
     for (int i = 0; i < RADARS; i++)
         add_number(text, ' ', header->radars[i]);
     for (int i = 0; i < RADARS; i++)

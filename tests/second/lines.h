@@ -17,6 +17,7 @@ struct event {
 
 /* The character and the number, without printf's cost: a grid may have 20,000 runs. */
 void add_number(struct bytes *text, char before, unsigned long long number);
+void add_signed(struct bytes *text, char before, int64_t number);
 void add_word(struct bytes *text, const char *word);
 
 /* Bytes so far and the answer, behind the word that names the call; after

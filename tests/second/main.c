@@ -14,7 +14,8 @@
      second left [MARKS]                 bytes left before and after each answer
      second marks                        receivers with the marks that the input gives
      second samples                      01's sample traffic tried on this model, what
-                                         bytes left means, marks, and altered parts
+                                         bytes left means, marks, minutes, and altered
+                                         parts
 
    All but those with a SEED, and samples, read standard input to its end.
    MARKS is the number that a fresh receiver is made from, in decimal; where it

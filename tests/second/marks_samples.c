@@ -46,7 +46,7 @@ enum { QUALITY_BYTES = 191, DATA_FROM = 40, END_FROM = 151 };
 static void put_quality_part(uint8_t *out)
 {
     static const struct header header = {
-        .picture = 0xF1, .clock = 1, .time = {[5] = 1, [7] = 1}, .radars = {0xA0}}; /* 0000.01.01.00.00 */
+        .picture = 0xF1, .clock = 1, .minute = -1051898400, .radars = {0xA0}}; /* 0000.01.01.00.00 */
     static const uint8_t modes[RADARS] = {1};
     static const uint8_t payload[100] = {0x16, 0x16, 0x16, 0x10, 0x02};
     struct writing what = {QUALITY, &header, modes, payload, sizeof payload};

@@ -80,9 +80,10 @@ static int take_picture(struct receiver *r, struct grid *grid, uint8_t byte)
 }
 
 /* Taking a start kind sets header and modes to 0; the picture code enters
-   the header first. */
+   the header first.  No digit waits yet. */
 static void enter_start(struct receiver *r)
 {
+    memset(r->digits, 0, sizeof r->digits);
     memset(&r->header, 0, sizeof r->header);
     memset(r->modes, 0, sizeof r->modes);
     r->header.picture = r->picture;
@@ -130,17 +131,26 @@ static int take_kind(struct receiver *r, struct grid *grid, uint8_t byte)
     return QUIET;
 }
 
+/* Byte 23 has come: "let it give the signed count of minutes .. or invalid".
+   The header gets that number, and no digit waits from here on. */
+static bool take_minute(struct receiver *r)
+{
+    bool valid = minute_of(r->digits, &r->header.minute);
+    memset(r->digits, 0, sizeof r->digits);
+    return valid;
+}
+
 /* Digits and stops are judged at their own byte, date and time of day at the
    last one. */
-static bool take_time_byte(struct header *header, unsigned place, uint8_t byte)
+static bool take_time_byte(struct receiver *r, unsigned place, uint8_t byte)
 {
     int digit = digit_at(place - AT_TIME);
     if (digit < 0)
         return byte == 0x2E;
     if (byte < '0' || byte > '9')
         return false;
-    header->time[digit] = (uint8_t)(byte - '0');
-    return place < AT_TIME_LAST || is_date_and_time(header->time);
+    r->digits[digit] = (uint8_t)(byte - '0');
+    return place < AT_TIME_LAST || take_minute(r);
 }
 
 static bool take_radar_byte(struct header *header, unsigned index, uint8_t byte)
@@ -152,12 +162,13 @@ static bool take_radar_byte(struct header *header, unsigned index, uint8_t byte)
 }
 
 /* One byte of a start block, from byte 3 on; false where it breaks its rule. */
-static bool take_start_byte(struct header *header, unsigned place, uint8_t byte)
+static bool take_start_byte(struct receiver *r, unsigned place, uint8_t byte)
 {
+    struct header *header = &r->header;
     if (place >= AT_RADARS)
         return take_radar_byte(header, place - AT_RADARS, byte);
     if (place >= AT_TIME)
-        return take_time_byte(header, place, byte);
+        return take_time_byte(r, place, byte);
     switch (place) {
     case AT_RESERVED:
         return byte == 0;
@@ -199,7 +210,7 @@ static int take_block_byte(struct receiver *r, struct grid *grid, uint8_t byte)
 {
     bool right;
     if (is_start_kind(r->kind))
-        right = take_start_byte(&r->header, r->place, byte);
+        right = take_start_byte(r, r->place, byte);
     else if (is_end_kind(r->kind))
         right = take_end_byte(r, r->place, byte);
     else

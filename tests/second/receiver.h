@@ -1,5 +1,5 @@
-/* 01, "The receiver", with the marks of Request 101: a plain automaton that
-   takes one byte at a time. */
+/* 01, "The receiver", with the marks of Request 101 and the minute of Request
+   111: a plain automaton that takes one byte at a time. */
 #ifndef SECOND_RECEIVER_H
 #define SECOND_RECEIVER_H
 
@@ -29,6 +29,8 @@ struct receiver {
     int part;           /* the part open, or NO_PART */
     unsigned due;       /* 0, 1 to 10, or DUE_END */
     uint8_t check;      /* running check byte */
+    uint8_t digits[TIME_DIGITS]; /* of a start text's time; "wait in the state
+                                    until byte 23 and are 0 from then on" */
     struct header header;
     uint8_t modes[RADARS];
 };

@@ -4,6 +4,7 @@
 #include "bytes.h"
 #include "countdown.h"
 #include "marks_samples.h"
+#include "minutes_samples.h"
 #include "receiver.h"
 #include "services.h"
 #include "texts.h"
@@ -48,11 +49,8 @@ size_t put_e(uint8_t *out)
 
 static bool time_valid(const char *text)
 {
-    uint8_t digits[TIME_DIGITS];
-    for (size_t i = 0; i < TIME_BYTES; i++)
-        if (digit_at(i) >= 0)
-            digits[digit_at(i)] = (uint8_t)(text[i] - '0');
-    return is_date_and_time(digits);
+    int64_t minute;
+    return read_time((const uint8_t *)text, &minute);
 }
 
 static void try_times_and_payload(void)
@@ -206,7 +204,7 @@ enum {
 static int put_quality(uint8_t *out, const uint8_t *payload, size_t *length)
 {
     static const struct header header = {
-        .picture = 0xF1, .clock = 9983, .time = {[5] = 1, [7] = 1}, .radars = {0xB6}}; /* 0000.01.01.00.00 */
+        .picture = 0xF1, .clock = 9983, .minute = -1051898400, .radars = {0xB6}}; /* 0000.01.01.00.00 */
     static const uint8_t modes[RADARS] = {1};
     struct writing what = {QUALITY, &header, modes, payload, QUALITY_PAYLOAD};
     return write_part(&what, out, QUALITY_PART, length);
@@ -373,6 +371,7 @@ int run_samples(void)
     try_quality_bytes();
     try_left_of_s();
     try_left_at_opening();
+    try_minutes(expect);
     try_countdown(expect);
     try_marks(expect);
     try_alterations(expect);

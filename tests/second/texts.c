@@ -115,26 +115,19 @@ int digit_at(size_t time_place)
     return digits[time_place];
 }
 
-static int days_of_month(int year, int month)
+bool read_time(const uint8_t *time, int64_t *minute)
 {
-    static const int days[13] = {0, 31, 28, 31, 30, 31, 30, 31, 31, 30, 31, 30, 31};
-    bool leap = (year % 4 == 0 && year % 100 != 0) || year % 400 == 0;
-    return days[month] + (month == 2 && leap ? 1 : 0);
-}
-
-bool is_date_and_time(const uint8_t digits[TIME_DIGITS])
-{
-    for (int i = 0; i < TIME_DIGITS; i++)
-        if (digits[i] > 9)
-            return false;
-    int year = digits[0] * 1000 + digits[1] * 100 + digits[2] * 10 + digits[3];
-    int month = digits[4] * 10 + digits[5];
-    int day = digits[6] * 10 + digits[7];
-    int hour = digits[8] * 10 + digits[9];
-    int minute = digits[10] * 10 + digits[11];
-    if (month < 1 || month > 12 || day < 1 || day > days_of_month(year, month))
-        return false;
-    return hour <= 23 && minute <= 59;
+    uint8_t digits[TIME_DIGITS];
+    for (size_t i = 0; i < TIME_BYTES; i++) {
+        int digit = digit_at(i);
+        if (digit < 0) {
+            if (time[i] != 0x2E)
+                return false;
+        } else {
+            digits[digit] = (uint8_t)(time[i] - '0'); /* no digit gives 10 or more */
+        }
+    }
+    return minute_of(digits, minute);
 }
 
 bool first_radar_allowed(uint8_t byte)
@@ -183,26 +176,12 @@ bool mode_byte_allowed(uint8_t radar, uint8_t byte)
     return radar == 0 ? byte == 0 : mode_of_byte(byte) != 0;
 }
 
-static bool time_undamaged(const uint8_t *time)
-{
-    uint8_t digits[TIME_DIGITS];
-    for (size_t i = 0; i < TIME_BYTES; i++) {
-        int digit = digit_at(i);
-        if (digit < 0) {
-            if (time[i] != 0x2E)
-                return false;
-        } else {
-            digits[digit] = (uint8_t)(time[i] - '0'); /* no digit gives 10 or more */
-        }
-    }
-    return is_date_and_time(digits);
-}
-
 bool start_block_undamaged(const uint8_t *block)
 {
+    int64_t minute;
     return block[AT_RESERVED] == 0 && mode_of_byte(block[AT_STATUS_2]) != 0 &&
            block[AT_CLOCK] < 0x80 && block[AT_CLOCK + 1] < 0x80 &&
-           time_undamaged(block + AT_TIME) && radars_allowed(block + AT_RADARS);
+           read_time(block + AT_TIME, &minute) && radars_allowed(block + AT_RADARS);
 }
 
 bool data_block_undamaged(const uint8_t *block)
@@ -277,11 +256,13 @@ size_t undamaged_part(const uint8_t *bytes, size_t length)
 
 void put_fields(uint8_t *block, const struct header *header)
 {
+    uint8_t digits[TIME_DIGITS];
+    put_digits(header->minute, digits);
     block[AT_CLOCK] = (uint8_t)(header->clock >> 7);
     block[AT_CLOCK + 1] = (uint8_t)(header->clock & 0x7F);
     for (size_t i = 0; i < TIME_BYTES; i++) {
         int digit = digit_at(i);
-        block[AT_TIME + i] = digit < 0 ? 0x2E : (uint8_t)('0' + header->time[digit]);
+        block[AT_TIME + i] = digit < 0 ? 0x2E : (uint8_t)('0' + digits[digit]);
     }
     memcpy(block + AT_RADARS, header->radars, RADARS);
 }

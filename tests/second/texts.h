@@ -1,8 +1,10 @@
 /* 01, "A text": codes, kinds, check byte and the rules of blocks, texts and
-   parts; the quality bits have the sheet of request #107.  Second model,
-   written from these papers alone. */
+   parts; the quality bits have the sheet of request #107, and the time is a
+   minute by request #111.  Second model, written from these papers alone. */
 #ifndef SECOND_TEXTS_H
 #define SECOND_TEXTS_H
+
+#include "minutes.h"
 
 #include <stdbool.h>
 #include <stddef.h>
@@ -17,7 +19,6 @@ enum {
     RADAR_CODES = 21,
     RADARS = 8,
     TIME_BYTES = 16,   /* YYYY.MM.DD.hh.mm */
-    TIME_DIGITS = 12,
     CLOCKS = 16384,
     GRID_BYTES = 20000,
     CONTROL_BYTES = 5, /* 16 16 16 10 02 */
@@ -48,10 +49,10 @@ extern const uint8_t RADAR_LIST[RADAR_CODES];
 struct header {
     uint8_t picture;
     uint16_t clock;
-    uint8_t time[TIME_DIGITS]; /* digits as numbers 0 to 9 */
-    uint8_t radars[RADARS];    /* 0 where there is none */
+    int64_t minute;         /* of the time, from 1 January 2000, 00:00 */
+    uint8_t radars[RADARS]; /* 0 where there is none */
     bool no_echo;
-    uint8_t mode;              /* the mode of status 2, 1 to 3 */
+    uint8_t mode;           /* the mode of status 2, 1 to 3 */
 };
 
 bool is_picture_code(uint8_t byte);
@@ -75,7 +76,10 @@ int highest_mode(const uint8_t modes[RADARS]);
 
 /* The digit (0 to 11) that stands at this place of YYYY.MM.DD.hh.mm; -1 for a stop. */
 int digit_at(size_t time_place);
-bool is_date_and_time(const uint8_t digits[TIME_DIGITS]);
+
+/* The minute of these 16 bytes; false, with *minute as it was, where a stop or a
+   digit is none or the time is invalid. */
+bool read_time(const uint8_t *time, int64_t *minute);
 
 /* May this byte stand behind that one in the list of radar codes?  The first
    has nothing before it and must be a code. */
@@ -94,7 +98,8 @@ bool end_block_undamaged(const uint8_t *block, const uint8_t radars[RADARS]);
 /* The length of the undamaged part with which these bytes begin; 0 for none. */
 size_t undamaged_part(const uint8_t *bytes, size_t length);
 
-/* Puts clock, time and radar codes into a start block. */
+/* Puts clock, time and radar codes into a start block; the minute is one of
+   years 0000 to 9999. */
 void put_fields(uint8_t *block, const struct header *header);
 
 /* Writes a text around a block; returns its length, the block's and 8. */

@@ -6,7 +6,7 @@ static bool header_right(const struct header *header, const uint8_t modes[RADARS
 {
     if (!is_picture_code(header->picture) || header->clock >= CLOCKS)
         return false;
-    if (!is_date_and_time(header->time) || !radars_allowed(header->radars))
+    if (!is_minute(header->minute) || !radars_allowed(header->radars))
         return false;
     for (int i = 0; i < RADARS; i++) {
         bool right = header->radars[i] == 0 ? modes[i] == 0 : modes[i] >= 1 && modes[i] <= 3;

@@ -1,4 +1,5 @@
-/* 01, "The writer": a whole part from part, header, modes and payload. */
+/* 01, "The writer": a whole part from part, header, modes and payload.  "32 also
+   covers a minute outside years 0000 to 9999" (Request 111). */
 #ifndef SECOND_WRITER_H
 #define SECOND_WRITER_H
 

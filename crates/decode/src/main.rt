@@ -16,7 +16,7 @@
 //   part NUMBER complete at byte BYTE
 //     picture  CODE NAME
 //     kind     intensity, echo top or quality
-//     time     YYYY-MM-DD hh:mm
+//     time     YYYY-MM-DD hh:mm          of the header's minute (Request 111)
 //     clock    CLOCK
 //     mode     MODE                      the mode of status 2
 //     radar    CODE NAME mode MODE       a line for each radar

@@ -15,6 +15,7 @@ use crate::names::put_radar;
 use crate::quality::values;
 use receiver_state::state::State;
 use text::header::Header;
+use text_calendar::time::digits_of;
 
 fn part_line(out: &mut Buffer, number: u64, total: u64) -> usize {
     let numbered = put_labelled(out, 0, b"part ", number, 0);
@@ -98,13 +99,13 @@ fn echo_line(out: &mut Buffer, used: usize, noecho: bool) -> usize {
     put(out, used, b"\n  NO ECHO  no")
 }
 
-// What the header of a part says, and the modes of its radars
+// What the header of a part says, the time by its minute (Request 111), and the modes of its radars
 fn header_lines(out: &mut Buffer, used: usize, part: u8, header: Header, modes: [u8; 8]) -> usize {
-    let time = header.time;
+    let digits = digits_of(header.minute);
     let radars = header.radars;
     let mut at = picture_line(out, used, header.picture);
     at = kind_line(out, at, part);
-    at = time_line(out, at, time);
+    at = time_line(out, at, digits);
     at = number_lines(out, at, header.clock, header.mode);
     at = radar_lines(out, at, radars, modes);
     echo_line(out, at, header.noecho)

@@ -14,7 +14,9 @@ use Rattle.general_laws.specs.Bytes.{_!_, bit, isIn, every, allOf, same}
 use Rattle.text.specs.Text.{FD, xorAll, checkByte, textOf}
 use Rattle.text.specs.Pictures.{pictureCodes, isPictureCode}
 use Rattle.text.specs.Kinds.{kinds, partOf, textNumber, kindOf, isKind, isStartKind, isEndKind, isDataKind, dataTexts, dataBlockLength, blockLength}
-use Rattle.text.specs.StartBlock.{noEchoOf, modeOf, hasMode, isClockByte, clockOf, isLeapYear, daysIn, isMoment, yearOf, isTime, isDigit, radarCodes, isRadarCode, follows, isStartBlock, isRadarList, isTimeText, digitsOf, rising}
+use Rattle.text_calendar_spec.specs.Calendar.{isLeapYear, daysIn, isMoment}
+use Rattle.text_calendar_spec.specs.TimeDigits.{yearOf, isTime}
+use Rattle.text.specs.StartBlock.{noEchoOf, modeOf, hasMode, isClockByte, clockOf, isDigit, radarCodes, isRadarCode, follows, isStartBlock, isRadarList, isTimeText, digitsOf, rising}
 use Rattle.text.specs.DataBlock.{oddLevel, evenLevel, isIntensityByte, isTopByte, isQualityByte, isPayloadByte, isDataBlock}
 use Rattle.text.specs.EndBlock.{isModeByte, highest, isEndBlock, modesOf}
 use Rattle.text.specs.Part.{Part, textsOf, partBytes, inOrder, isPart, AlteredTo}
@@ -22,7 +24,7 @@ use Rattle.text_laws.proofs.Framing.{altered-at}
 use Rattle.receiver_spec.specs.Seen.{endsOpening, dueByte}
 use Rattle.receiver_spec.specs.Marks.{markedAmong, markedPictures, isMarked, areMarks, allMarks, marksFrom}
 use Rattle.receiver_spec.specs.State.{fresh, emptyGrid}
-use Rattle.receiver_spec.specs.Contents.{timeTakes, startTakes, begunHeader, enterHeader, endTakes, enterModes, enterGrid, takesByte}
+use Rattle.receiver_spec.specs.Contents.{timeTakes, startTakes, begunHeader, enterHeader, enterDigits, endTakes, enterModes, enterGrid, takesByte}
 use Rattle.receiver_spec.specs.Receiver.{_⊕_, opened, gapByte, pictureByte, kindByte, blockByte, eorByte, checkedByte, firstDue, nextDue, modeIsHighest, lastByte, placedByte, step}
 use Rattle.receiver_spec.specs.Calls.{answersOf}
 use Rattle.receiver_spec.specs.Alterations.{AlteredTexts, blocksOf, Alteration, nothing, became, areAlterations, alteredBytes, someAltered}
@@ -59,19 +61,19 @@ claimed {p} {list} sample =
     (claim .eachList list (sample .alterations), claim .atLeastOne list (sample .alterations) .0 (sample .some))
 
 pub no-echo : EveryTextAltered noEcho noEchoAltered (39 ∷ 20 ∷ 49 ∷ 18 ∷ [])
-unfolding noEcho noEchoAltered areAlterations alteredBytes someAltered isPart isStartBlock inOrder isEndBlock isRadarList modesOf isDataBlock answersOf step opened placedByte gapByte pictureByte kindByte blockByte eorByte checkedByte firstDue nextDue modeIsHighest lastByte _⊕_ endsOpening dueByte timeTakes startTakes begunHeader enterHeader endTakes enterModes enterGrid takesByte markedAmong markedPictures isMarked areMarks marksFrom bit isIn every allOf same xorAll checkByte textOf pictureCodes isPictureCode kinds partOf textNumber kindOf isKind isStartKind isEndKind isDataKind dataTexts dataBlockLength blockLength noEchoOf modeOf hasMode isClockByte clockOf isLeapYear daysIn isMoment yearOf isTime isDigit radarCodes isRadarCode follows oddLevel evenLevel isIntensityByte isTopByte isQualityByte isPayloadByte isModeByte highest isTimeText digitsOf rising
+unfolding noEcho noEchoAltered areAlterations alteredBytes someAltered isPart isStartBlock inOrder isEndBlock isRadarList modesOf isDataBlock answersOf step opened placedByte gapByte pictureByte kindByte blockByte eorByte checkedByte firstDue nextDue modeIsHighest lastByte _⊕_ endsOpening dueByte timeTakes startTakes begunHeader enterHeader enterDigits endTakes enterModes enterGrid takesByte markedAmong markedPictures isMarked areMarks marksFrom bit isIn every allOf same xorAll checkByte textOf pictureCodes isPictureCode kinds partOf textNumber kindOf isKind isStartKind isEndKind isDataKind dataTexts dataBlockLength blockLength noEchoOf modeOf hasMode isClockByte clockOf isLeapYear daysIn isMoment yearOf isTime isDigit radarCodes isRadarCode follows oddLevel evenLevel isIntensityByte isTopByte isQualityByte isPayloadByte isModeByte highest isTimeText digitsOf rising
 no-echo = record { undamaged = refl; alterations = refl; some = refl; every = refl; answered = refl }
 
 pub intensity-texts : EveryTextAltered intensity intensityAltered (39 ∷ 20 ∷ 78 ∷ 19 ∷ 2059 ∷ 16 ∷ 4062 ∷ 13 ∷ 4070 ∷ 16 ∷ 6080 ∷ 13 ∷ 8092 ∷ 14 ∷ 14125 ∷ 16 ∷ 16136 ∷ 16 ∷ 18147 ∷ 16 ∷ 20159 ∷ 18 ∷ [])
-unfolding intensity intensityAltered areAlterations alteredBytes someAltered isPart isStartBlock inOrder isEndBlock isRadarList modesOf isDataBlock answersOf step opened placedByte gapByte pictureByte kindByte blockByte eorByte checkedByte firstDue nextDue modeIsHighest lastByte _⊕_ endsOpening dueByte timeTakes startTakes begunHeader enterHeader endTakes enterModes enterGrid takesByte markedAmong markedPictures isMarked areMarks marksFrom bit isIn every allOf same xorAll checkByte textOf pictureCodes isPictureCode kinds partOf textNumber kindOf isKind isStartKind isEndKind isDataKind dataTexts dataBlockLength blockLength noEchoOf modeOf hasMode isClockByte clockOf isLeapYear daysIn isMoment yearOf isTime isDigit radarCodes isRadarCode follows oddLevel evenLevel isIntensityByte isTopByte isQualityByte isPayloadByte isModeByte highest isTimeText digitsOf rising
+unfolding intensity intensityAltered areAlterations alteredBytes someAltered isPart isStartBlock inOrder isEndBlock isRadarList modesOf isDataBlock answersOf step opened placedByte gapByte pictureByte kindByte blockByte eorByte checkedByte firstDue nextDue modeIsHighest lastByte _⊕_ endsOpening dueByte timeTakes startTakes begunHeader enterHeader enterDigits endTakes enterModes enterGrid takesByte markedAmong markedPictures isMarked areMarks marksFrom bit isIn every allOf same xorAll checkByte textOf pictureCodes isPictureCode kinds partOf textNumber kindOf isKind isStartKind isEndKind isDataKind dataTexts dataBlockLength blockLength noEchoOf modeOf hasMode isClockByte clockOf isLeapYear daysIn isMoment yearOf isTime isDigit radarCodes isRadarCode follows oddLevel evenLevel isIntensityByte isTopByte isQualityByte isPayloadByte isModeByte highest isTimeText digitsOf rising
 intensity-texts = record { undamaged = refl; alterations = refl; some = refl; every = refl; answered = refl }
 
 pub top-texts : EveryTextAltered top topAltered (40 ∷ 21 ∷ 48 ∷ 16 ∷ 459 ∷ 16 ∷ [])
-unfolding top topAltered areAlterations alteredBytes someAltered isPart isStartBlock inOrder isEndBlock isRadarList modesOf isDataBlock answersOf step opened placedByte gapByte pictureByte kindByte blockByte eorByte checkedByte firstDue nextDue modeIsHighest lastByte _⊕_ endsOpening dueByte timeTakes startTakes begunHeader enterHeader endTakes enterModes enterGrid takesByte markedAmong markedPictures isMarked areMarks marksFrom bit isIn every allOf same xorAll checkByte textOf pictureCodes isPictureCode kinds partOf textNumber kindOf isKind isStartKind isEndKind isDataKind dataTexts dataBlockLength blockLength noEchoOf modeOf hasMode isClockByte clockOf isLeapYear daysIn isMoment yearOf isTime isDigit radarCodes isRadarCode follows oddLevel evenLevel isIntensityByte isTopByte isQualityByte isPayloadByte isModeByte highest isTimeText digitsOf rising
+unfolding top topAltered areAlterations alteredBytes someAltered isPart isStartBlock inOrder isEndBlock isRadarList modesOf isDataBlock answersOf step opened placedByte gapByte pictureByte kindByte blockByte eorByte checkedByte firstDue nextDue modeIsHighest lastByte _⊕_ endsOpening dueByte timeTakes startTakes begunHeader enterHeader enterDigits endTakes enterModes enterGrid takesByte markedAmong markedPictures isMarked areMarks marksFrom bit isIn every allOf same xorAll checkByte textOf pictureCodes isPictureCode kinds partOf textNumber kindOf isKind isStartKind isEndKind isDataKind dataTexts dataBlockLength blockLength noEchoOf modeOf hasMode isClockByte clockOf isLeapYear daysIn isMoment yearOf isTime isDigit radarCodes isRadarCode follows oddLevel evenLevel isIntensityByte isTopByte isQualityByte isPayloadByte isModeByte highest isTimeText digitsOf rising
 top-texts = record { undamaged = refl; alterations = refl; some = refl; every = refl; answered = refl }
 
 pub quality-texts : EveryTextAltered quality qualityAltered (39 ∷ 20 ∷ 159 ∷ 16 ∷ [])
-unfolding quality qualityAltered areAlterations alteredBytes someAltered isPart isStartBlock inOrder isEndBlock isRadarList modesOf isDataBlock answersOf step opened placedByte gapByte pictureByte kindByte blockByte eorByte checkedByte firstDue nextDue modeIsHighest lastByte _⊕_ endsOpening dueByte timeTakes startTakes begunHeader enterHeader endTakes enterModes enterGrid takesByte markedAmong markedPictures isMarked areMarks marksFrom bit isIn every allOf same xorAll checkByte textOf pictureCodes isPictureCode kinds partOf textNumber kindOf isKind isStartKind isEndKind isDataKind dataTexts dataBlockLength blockLength noEchoOf modeOf hasMode isClockByte clockOf isLeapYear daysIn isMoment yearOf isTime isDigit radarCodes isRadarCode follows oddLevel evenLevel isIntensityByte isTopByte isQualityByte isPayloadByte isModeByte highest isTimeText digitsOf rising
+unfolding quality qualityAltered areAlterations alteredBytes someAltered isPart isStartBlock inOrder isEndBlock isRadarList modesOf isDataBlock answersOf step opened placedByte gapByte pictureByte kindByte blockByte eorByte checkedByte firstDue nextDue modeIsHighest lastByte _⊕_ endsOpening dueByte timeTakes startTakes begunHeader enterHeader enterDigits endTakes enterModes enterGrid takesByte markedAmong markedPictures isMarked areMarks marksFrom bit isIn every allOf same xorAll checkByte textOf pictureCodes isPictureCode kinds partOf textNumber kindOf isKind isStartKind isEndKind isDataKind dataTexts dataBlockLength blockLength noEchoOf modeOf hasMode isClockByte clockOf isLeapYear daysIn isMoment yearOf isTime isDigit radarCodes isRadarCode follows oddLevel evenLevel isIntensityByte isTopByte isQualityByte isPayloadByte isModeByte highest isTimeText digitsOf rising
 quality-texts = record { undamaged = refl; alterations = refl; some = refl; every = refl; answered = refl }
 
 -- alterations of a part, not of every text, and the answers to what came
@@ -89,7 +91,7 @@ pub record BehindStart : Type 0 where
   pub picture : SomeTextsAltered top (nothing ∷ nothing ∷ became 6 0xC0 ∷ []) (40 ∷ 1 ∷ 451 ∷ 2 ∷ 459 ∷ 17 ∷ [])
 
 pub behind-start : BehindStart
-unfolding top areAlterations alteredBytes someAltered isPart isStartBlock inOrder isEndBlock isRadarList modesOf isDataBlock answersOf step opened placedByte gapByte pictureByte kindByte blockByte eorByte checkedByte firstDue nextDue modeIsHighest lastByte _⊕_ endsOpening dueByte timeTakes startTakes begunHeader enterHeader endTakes enterModes enterGrid takesByte markedAmong markedPictures isMarked areMarks marksFrom bit isIn every allOf same xorAll checkByte textOf pictureCodes isPictureCode kinds partOf textNumber kindOf isKind isStartKind isEndKind isDataKind dataTexts dataBlockLength blockLength noEchoOf modeOf hasMode isClockByte clockOf isLeapYear daysIn isMoment yearOf isTime isDigit radarCodes isRadarCode follows oddLevel evenLevel isIntensityByte isTopByte isQualityByte isPayloadByte isModeByte highest isTimeText digitsOf rising
+unfolding top areAlterations alteredBytes someAltered isPart isStartBlock inOrder isEndBlock isRadarList modesOf isDataBlock answersOf step opened placedByte gapByte pictureByte kindByte blockByte eorByte checkedByte firstDue nextDue modeIsHighest lastByte _⊕_ endsOpening dueByte timeTakes startTakes begunHeader enterHeader enterDigits endTakes enterModes enterGrid takesByte markedAmong markedPictures isMarked areMarks marksFrom bit isIn every allOf same xorAll checkByte textOf pictureCodes isPictureCode kinds partOf textNumber kindOf isKind isStartKind isEndKind isDataKind dataTexts dataBlockLength blockLength noEchoOf modeOf hasMode isClockByte clockOf isLeapYear daysIn isMoment yearOf isTime isDigit radarCodes isRadarCode follows oddLevel evenLevel isIntensityByte isTopByte isQualityByte isPayloadByte isModeByte highest isTimeText digitsOf rising
 behind-start =
     record {
       payload = record { alterations = refl; some = refl; answered = refl };
@@ -110,7 +112,7 @@ pub record TwoInOneText : Type 0 where
   pub answered : listen (alteredTwice ++ textOf (noEcho .end)) ≡ 40 ∷ 1 ∷ 80 ∷ 3 ∷ []
 
 pub two-in-one-text : TwoInOneText
-unfolding noEcho alteredOnce alteredTwice otherClock partBytes textsOf isPart isStartBlock inOrder isEndBlock isRadarList modesOf isDataBlock answersOf step opened placedByte gapByte pictureByte kindByte blockByte eorByte checkedByte firstDue nextDue modeIsHighest lastByte _⊕_ endsOpening dueByte timeTakes startTakes begunHeader enterHeader endTakes enterModes enterGrid takesByte markedAmong markedPictures isMarked areMarks marksFrom bit isIn every allOf same xorAll checkByte textOf pictureCodes isPictureCode kinds partOf textNumber kindOf isKind isStartKind isEndKind isDataKind dataTexts dataBlockLength blockLength noEchoOf modeOf hasMode isClockByte clockOf isLeapYear daysIn isMoment yearOf isTime isDigit radarCodes isRadarCode follows oddLevel evenLevel isIntensityByte isTopByte isQualityByte isPayloadByte isModeByte highest isTimeText digitsOf rising
+unfolding noEcho alteredOnce alteredTwice otherClock partBytes textsOf isPart isStartBlock inOrder isEndBlock isRadarList modesOf isDataBlock answersOf step opened placedByte gapByte pictureByte kindByte blockByte eorByte checkedByte firstDue nextDue modeIsHighest lastByte _⊕_ endsOpening dueByte timeTakes startTakes begunHeader enterHeader enterDigits endTakes enterModes enterGrid takesByte markedAmong markedPictures isMarked areMarks marksFrom bit isIn every allOf same xorAll checkByte textOf pictureCodes isPictureCode kinds partOf textNumber kindOf isKind isStartKind isEndKind isDataKind dataTexts dataBlockLength blockLength noEchoOf modeOf hasMode isClockByte clockOf isLeapYear daysIn isMoment yearOf isTime isDigit radarCodes isRadarCode follows oddLevel evenLevel isIntensityByte isTopByte isQualityByte isPayloadByte isModeByte highest isTimeText digitsOf rising
 two-in-one-text =
     record {
       undamaged = refl;

@@ -1,7 +1,6 @@
-// A start block's byte: its rule, and the header with it.
-use crate::time::is_stop;
+// A start block's byte: its rule, and the header with it. Byte 23 is none of these: with it the time is
+// whole, and is judged and enters at once (crate::byte).
 use crate::time::time_takes;
-use crate::time::with_digit;
 use text::header::Header;
 use text_codes::table::is_radar_code;
 use text_radars::places::radar_follows;
@@ -10,14 +9,15 @@ use text_status::status::mode_of;
 use text_status::status::no_echo_of;
 ghost use mathlib.Core.Path.{_≡_};
 ghost use mathlib.Core.Logic.{_≢_};
-ghost use mathlib.Core.Bool.{true};
 ghost use Prim.Native.Nat.{_≤_, _<_};
+ghost use Rattle.receiver_spec.specs.State.{noDigits};
 ghost use Rattle.receiver_spec.specs.Contents.{startTakes, enterHeader};
 
 // The rule of byte i of a start block. Notice 49, 4(1)(1-1)(c)(イ) and (d)(イ)
 pub(crate) fn start_takes(header: Header, i: u16, b: u8) -> bool
     requires { ⌜ (3 ≤ i) × (i < 32) ⌝ }
-    ensures { λ r. ⌜ r ≡ startTakes header i b ⌝ }
+    requires { ⌜ i ≢ 23 ⌝ }
+    ensures { λ r. ⌜ r ≡ startTakes header noDigits i b ⌝ }
 {
     match i {
         3 => b == 0,
@@ -34,23 +34,24 @@ pub(crate) fn start_takes(header: Header, i: u16, b: u8) -> bool
 // Notice 49, 4(1)(1-1)(c)(イ) and (d)(イ)
 fn later_takes(header: Header, i: u16, b: u8) -> bool
     requires { ⌜ (8 ≤ i) × (i < 32) ⌝ }
+    requires { ⌜ i ≢ 23 ⌝ }
     requires { ⌜ i ≢ 24 ⌝ }
-    ensures { λ r. ⌜ r ≡ startTakes header i b ⌝ }
+    ensures { λ r. ⌜ r ≡ startTakes header noDigits i b ⌝ }
 {
     if i <= 23 {
-        let time = header.time;
-        return time_takes(time, i - 8, b);
+        return time_takes(i - 8, b);
     }
     let radars = header.radars;
     let before = (i - 25) as usize;
     radar_follows(radars[before], b)
 }
 
-// The header with byte i of the start block. Notice 49, 4(1)(1-1)(c)(イ) and (d)(イ)
+// The header with byte i of the start block; the time's bytes wait elsewhere (Request 111).
+// Notice 49, 4(1)(1-1)(c)(イ) and (d)(イ)
 pub(crate) fn enter_header(header: Header, i: u16, b: u8) -> Header
     requires { ⌜ (3 ≤ i) × (i < 32) ⌝ }
-    requires { ⌜ startTakes header i b ≡ true ⌝ }
-    ensures { λ r. ⌜ r ≡ enterHeader header i b ⌝ }
+    requires { ⌜ i ≢ 23 ⌝ }
+    ensures { λ r. ⌜ r ≡ enterHeader header noDigits i b ⌝ }
 {
     let mut next = header;
     match i {
@@ -74,15 +75,15 @@ pub(crate) fn enter_header(header: Header, i: u16, b: u8) -> Header
             next.clock = clock_of(high, b);
             return next;
         }
-        _ => enter_later(header, i, b),
+        _ => enter_radar(header, i, b),
     }
 }
 
-// The same for the time's bytes, and for the radars. Notice 49, 4(1)(1-1)(c)(イ) and (d)(イ)
-fn enter_later(header: Header, i: u16, b: u8) -> Header
+// The same for the radars, which stand behind the time. Notice 49, 4(1)(1-1)(c)(イ) and (d)(イ)
+fn enter_radar(header: Header, i: u16, b: u8) -> Header
     requires { ⌜ (8 ≤ i) × (i < 32) ⌝ }
-    requires { ⌜ startTakes header i b ≡ true ⌝ }
-    ensures { λ r. ⌜ r ≡ enterHeader header i b ⌝ }
+    requires { ⌜ i ≢ 23 ⌝ }
+    ensures { λ r. ⌜ r ≡ enterHeader header noDigits i b ⌝ }
 {
     let mut next = header;
     if 23 < i {
@@ -90,11 +91,5 @@ fn enter_later(header: Header, i: u16, b: u8) -> Header
         next.radars[at] = b;
         return next;
     }
-    if is_stop(i - 8) {
-        return next;
-    }
-    let digits = header.time;
-    let time = with_digit(digits, i - 8, b);
-    next.time = time;
     next
 }

@@ -1,9 +1,10 @@
-// The time, `YYYY.MM.DD.hh.mm`, byte by byte.
-use text_calendar::time::is_time;
+// The time, `YYYY.MM.DD.hh.mm`, byte by byte: its digits wait until the last of them is taken (Request
+// 111).
 ghost use mathlib.Core.Path.{_≡_};
-ghost use mathlib.Core.Bool.{false};
-ghost use Prim.Native.Nat.{_≤_, _<_};
-ghost use Rattle.receiver_spec.specs.Contents.{timeTakes, withDigit};
+ghost use mathlib.Core.Bool.{true, false};
+ghost use Prim.Native.Nat.{_-_, _≤_, _<_};
+ghost use Rattle.receiver_spec.specs.State.{noDigits};
+ghost use Rattle.receiver_spec.specs.Contents.{timeTakes, withDigit, enterDigits};
 ghost use Rattle.receiver_block_bytes.specs.Time.{isStop, digitIndex};
 
 // Whether a stop stands at this place. Notice 49, 4(1)(1-1)(c)(イ) and (d)(イ)
@@ -24,32 +25,44 @@ fn digit_index(i: u16) -> usize
 }
 
 // The digits with one more, where a digit stands. Notice 49, 4(1)(1-1)(c)(イ) and (d)(イ)
-pub(crate) fn with_digit(time: [u8; 12], i: u16, b: u8) -> [u8; 12]
+pub(crate) fn with_digit(digits: [u8; 12], i: u16, b: u8) -> [u8; 12]
     requires { ⌜ i < 16 ⌝ }
     requires { ⌜ isStop i ≡ false ⌝ }
     requires { ⌜ 48 ≤ b ⌝ }
-    ensures { λ r. ⌜ r ≡ withDigit time i b ⌝ }
+    ensures { λ r. ⌜ r ≡ withDigit digits i b ⌝ }
 {
     let at = digit_index(i);
-    let mut next = time;
+    let mut next = digits;
     next[at] = b - 48;
     next
 }
 
-// Whether a byte may stand at this place: digits and stops are judged at their own byte, date, hour
-// and minute at the last. Notice 49, 4(1)(1-1)(c)(イ) and (d)(イ)
-pub(crate) fn time_takes(time: [u8; 12], i: u16, b: u8) -> bool
-    requires { ⌜ i < 16 ⌝ }
-    ensures { λ r. ⌜ r ≡ timeTakes time i b ⌝ }
+// Whether a byte may stand at this place, the last one aside: digits and stops are judged at their own
+// byte. Notice 49, 4(1)(1-1)(c)(イ) and (d)(イ)
+pub(crate) fn time_takes(i: u16, b: u8) -> bool
+    requires { ⌜ i < 15 ⌝ }
+    ensures { λ r. ⌜ r ≡ timeTakes noDigits i b ⌝ }
 {
     if is_stop(i) {
         return b == 0x2E;
     }
-    if (b < 48) | (57 < b) {
-        return false;
+    (48 <= b) & (b <= 57)
+}
+
+// The digits that wait, with byte i of a start block: 0 from byte 23 on. Request 111; Notice 49,
+// 4(1)(1-1)(c)(イ) and (d)(イ)
+pub(crate) fn enter_digits(digits: [u8; 12], i: u16, b: u8) -> [u8; 12]
+    requires { ⌜ (8 ≤ i → i ≤ 22 → timeTakes noDigits (i - 8) b ≡ true) ⌝ }
+    ensures { λ r. ⌜ r ≡ enterDigits digits i b ⌝ }
+{
+    if i <= 7 {
+        return digits;
     }
-    if i != 15 {
-        return true;
+    if 22 < i {
+        return [0; 12];
     }
-    is_time(with_digit(time, i, b))
+    if is_stop(i - 8) {
+        return digits;
+    }
+    with_digit(digits, i - 8, b)
 }

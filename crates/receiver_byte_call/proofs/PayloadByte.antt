@@ -2,19 +2,20 @@
 use mathlib.Core.Path.{_≡_, refl, sym, ap, _∙_, subst}
 use mathlib.Core.Logic.{_≢_}
 use mathlib.Core.Bool.{true, false, not, and-false, true≢false}
+use mathlib.Core.List.{List}
 use Prim.Native.Nat.{ℕ, _+_, _*_, _-_, _≤_, _<_}
 use native.Mathlib.Omega.{arith}
 use lib.Dec.{eqb}
 use lib.ListN.{length}
 use borrow.Author.Tests.{eqb-true, eqb-false, eq-eqb, ne-eqb, leb-true, le-leb, ltb-true, lt-ltb, not-true}
-use Rattle.general_laws.specs.Bytes.{allOf}
+use Rattle.general_laws.specs.Bytes.{every, allOf}
 use Rattle.text.specs.Pictures.{isPictureCode}
 use Rattle.text.specs.Kinds.{kinds, isKind, isStartKind, isEndKind, isDataKind, partOf, textNumber, kindOf, blockLength, dataBlockLength}
 use Rattle.text.specs.DataBlock.{isPayloadByte}
 use Rattle.text_laws.proofs.KindTable.{text-back, data-block-length, block-most}
 use Rattle.general_laws.proofs.Tests.{and-split}
 use Rattle.text_laws.proofs.Payload.{payload-below}
-use Rattle.receiver_spec.specs.State.{isDue, fitsPart, kindRead, isPossible}
+use Rattle.receiver_spec.specs.State.{isDue, fitsPart, kindRead, awaitsTime, areWaiting, isPossible}
 use Rattle.receiver_spec.specs.Contents.{takesByte}
 use Rattle.receiver_spec.specs.Receiver.{_⊕_}
 use Rattle.receiver_spec.proofs.Laws.{only-FD}
@@ -63,7 +64,7 @@ unfolding advancedState
 advanced-first s = refl
 
 -- the tests of the definition, as facts
-pub record PayloadByte (f : Frame) (marks b : ℕ) : Type 0 where
+pub record PayloadByte (f : Frame) (marks : ℕ) (digits : List ℕ) (b : ℕ) : Type 0 where
   pub past : 3 ≤ f .place
   pub begun : 1 ≤ f .due
   pub ten : f .due ≤ 10
@@ -73,13 +74,15 @@ pub record PayloadByte (f : Frame) (marks b : ℕ) : Type 0 where
   pub known : isKind (f .kind) ≡ true
   pub coded : isPictureCode (f .picture) ≡ true
   pub few : areMarks marks ≡ true
+  pub still : every (λ d. eqb d 0) digits ≡ true
   pub rule : isPayloadByte (f .part) b ≡ true
 
-pub payload-byte-has : (f : Frame) (marks b : ℕ) → isPayloadHere f marks b ≡ true → PayloadByte f marks b
+pub payload-byte-has : (f : Frame) (marks : ℕ) (digits : List ℕ) (b : ℕ) → isPayloadHere f marks digits b ≡ true → PayloadByte f marks digits b
 unfolding isPayloadHere
-payload-byte-has f marks b h =
+payload-byte-has f marks digits b h =
     let (h0, rule) = and-split _ _ h in
-    let (h1, few) = and-split _ _ h0 in
+    let (h00, still) = and-split _ _ h0 in
+    let (h1, few) = and-split _ _ h00 in
     let (h2, coded) = and-split _ _ h1 in
     let (h3, known) = and-split _ _ h2 in
     let (h4, same) = and-split _ _ h3 in
@@ -97,6 +100,7 @@ payload-byte-has f marks b h =
       known = known;
       coded = coded;
       few = few;
+      still = still;
       rule = rule;
     }
 
@@ -120,7 +124,7 @@ module _ (k t : ℕ) (number : textNumber k ≡ t) (one : 1 ≤ t) (ten : t ≤ 
   data-here h = simp (h, number, ne-eqb t 0 (omega (arith, one)), ne-eqb t 11 (omega (arith, ten)))
 
 -- part and text number of the kind under way are the part open and the due text, and the block is as long as that part's
-module _ (f : Frame) (marks b : ℕ) (h : PayloadByte f marks b) where
+module _ (f : Frame) (marks : ℕ) (digits : List ℕ) (b : ℕ) (h : PayloadByte f marks digits b) where
   due-known : isKind (kindOf (f .part) (f .due)) ≡ true
   due-known = subst (λ k. isKind k ≡ true) (h .same) (h .known)
 
@@ -145,24 +149,26 @@ module _ (f : Frame) (marks b : ℕ) (h : PayloadByte f marks b) where
   pub short-here : f .place < 2003
   short-here = omega (arith, long-here, block-most (f .kind))
 
-module _ (s : State) (b : ℕ) (h : PayloadByte (s .frame) (s .marks) b) where
+module _ (s : State) (b : ℕ) (h : PayloadByte (s .frame) (s .marks) (s .digits) b) where
   -- refusal 2 lets the state pass
   pub possible-here : isPossible (stateOf s) ≡ true
-  unfolding isPossible isDue kindRead fitsPart allOf
+  unfolding isPossible isDue kindRead fitsPart awaitsTime areWaiting allOf
   possible-here =
       let f = s .frame in
       simp (
         le-leb (length (seenOf (s .seen) (f .count))) 5 (omega (arith, length-seen (s .seen) (f .count), h .five)),
-        ne-eqb (f .part) 0 (part-open f (s .marks) b h),
-        due-known f (s .marks) b h,
+        ne-eqb (f .part) 0 (part-open f (s .marks) (s .digits) b h),
+        due-known f (s .marks) (s .digits) b h,
         ne-eqb (f .due) 0 (omega (arith, h .begun)),
         ne-eqb (f .kind) 0 (not-zero (f .kind) (h .known)),
         le-leb 3 (f .place) (h .past),
-        le-leb (f .place) (blockLength (f .kind) + 2) (omega (arith, long-here f (s .marks) b h)),
+        le-leb (f .place) (blockLength (f .kind) + 2) (omega (arith, long-here f (s .marks) (s .digits) b h)),
         h .coded,
         h .known,
         eq-eqb (f .kind) (kindOf (f .part) (f .due)) (h .same),
         h .few,
+        no-start (f .kind) (f .due) (number-here f (s .marks) (s .digits) b h) (h .begun) (h .ten),
+        h .still,
       )
 
   count-here : pushCount (s .frame .count) ≡ 5
@@ -181,7 +187,7 @@ module _ (s : State) (b : ℕ) (h : PayloadByte (s .frame) (s .marks) b) where
       let f = s .frame in
       ap (λ (t : State). decide t b) (sym (advanced-first s))
       ∙ advanced-step s (f .place) (f .check) (s .seen) (f .count) b
-      (no-start (f .kind) (f .due) (number-here f (s .marks) b h) (h .begun) (h .ten))
-      (no-end (f .kind) (f .due) (number-here f (s .marks) b h) (h .begun) (h .ten)) (h .past) (long-here f (s .marks) b h)
-      (subst (λ p. isPayloadByte p b ≡ true) (sym (part-here f (s .marks) b h)) (h .rule))
-      ∙ rw (count-here, number-here f (s .marks) b h)
+      (no-start (f .kind) (f .due) (number-here f (s .marks) (s .digits) b h) (h .begun) (h .ten))
+      (no-end (f .kind) (f .due) (number-here f (s .marks) (s .digits) b h) (h .begun) (h .ten)) (h .past) (long-here f (s .marks) (s .digits) b h)
+      (subst (λ p. isPayloadByte p b ≡ true) (sym (part-here f (s .marks) (s .digits) b h)) (h .rule))
+      ∙ rw (count-here, number-here f (s .marks) (s .digits) b h)

@@ -49,7 +49,8 @@ pub fn byte_call(state: State, grid: &mut [u8], b: u8) -> CallResult
         return refused(state, 1);
     }
     let f = state.frame;
-    if is_payload_here(f, state.marks, b) {
+    let digits = state.digits;
+    if is_payload_here(f, state.marks, digits, b) {
         grid[2000 * ((f.due - 1) as usize) + ((f.place - 3) as usize)] = b;
         return CallResult {
             state: advanced_state(state, f.place + 1, f.check ^ b, pushed(state.seen, b), 5),

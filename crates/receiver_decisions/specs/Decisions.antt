@@ -3,6 +3,7 @@ use Prim.Native.Nat.{ℕ}
 use mathlib.Core.List.{List}
 use Rattle.text.specs.EndBlock.{noModes}
 use Rattle.text.specs.declared.header.Header.{Header}
+use Rattle.receiver_spec.specs.State.{noDigits}
 use Rattle.receiver_spec.specs.Contents.{begunHeader}
 use Rattle.receiver_spec.specs.Receiver.{Step}
 use Rattle.receiver_state.specs.Meaning.{stateOf, numberOf, applied}
@@ -19,19 +20,20 @@ abbrev pub frame : ℕ → ℕ → ℕ → ℕ → ℕ → ℕ → ℕ → Frame
 frame place kind picture part due check count =
     record { place = place; kind = kind; picture = picture; part = part; due = due; check = check; count = count }
 
-abbrev pub state : ℕ → Frame → Header → List ℕ → ℕ → State
-state seen f h m marks = record { seen = seen; frame = f; header = h; modes = m; marks = marks }
+abbrev pub state : ℕ → Frame → Header → List ℕ → List ℕ → ℕ → State
+state seen f h m digits marks = record { seen = seen; frame = f; header = h; modes = m; digits = digits; marks = marks }
 
 abbrev pub decision : State → Answer → Effect → Decision
 decision s a e = record { next = s; answer = a; effect = e }
 
--- header, modes and marks stay
+-- header, modes, waiting digits and marks stay
 unfoldable pub goesOn : State → Frame → Answer → Effect → Decision
-goesOn s f a e = decision (state (s .seen) f (s .header) (s .modes) (s .marks)) a e
+goesOn s f a e = decision (state (s .seen) f (s .header) (s .modes) (s .digits) (s .marks)) a e
 
--- header and modes are 0, and the picture code enters; the marks stay (Request 101). Notice 49, 4(1)(1-1)(c)(イ)
+-- header and modes are 0, no digit waits (Request 111), and the picture code enters; the marks stay (Request 101). Notice 49,
+-- 4(1)(1-1)(c)(イ)
 unfoldable pub begins : State → Frame → ℕ → Answer → Effect → Decision
-begins s f picture a e = decision (state (s .seen) f (begunHeader picture) noModes (s .marks)) a e
+begins s f picture a e = decision (state (s .seen) f (begunHeader picture) noModes noDigits (s .marks)) a e
 
 -- dropped: as fresh with the same marks (Request 101), but the bytes seen are kept
 unfoldable pub drops : State → ℕ → Decision

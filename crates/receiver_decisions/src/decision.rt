@@ -15,18 +15,20 @@ pub struct Decision {
     pub effect: Effect,
 }
 
-// Header, modes and marks stay, and the receiver stands elsewhere
+// Header, modes, waiting digits and marks stay, and the receiver stands elsewhere
 pub fn goes_on(s: State, frame: Frame, answer: Answer, effect: Effect) -> Decision
     ensures { λ r. ⌜ r ≡ goesOn s frame answer effect ⌝ }
 {
     let header = s.header;
     let modes = s.modes;
+    let digits = s.digits;
     let marks = s.marks;
     let next = State {
         seen: s.seen,
         frame,
         header,
         modes,
+        digits,
         marks,
     };
     Decision {
@@ -36,13 +38,14 @@ pub fn goes_on(s: State, frame: Frame, answer: Answer, effect: Effect) -> Decisi
     }
 }
 
-// Header and modes are 0, and the picture code enters; the marks stay (Request 101).
+// Header and modes are 0, no digit waits (Request 111), and the picture code enters; the marks stay
+// (Request 101).
 // Notice 49, 4(1)(1-1)(c)(イ)
 pub fn begins(s: State, frame: Frame, picture: u8, answer: Answer, effect: Effect) -> Decision
     ensures { λ r. ⌜ r ≡ begins s frame picture answer effect ⌝ }
 {
     let header = Header {
-        time: [0; 12],
+        minute: 0,
         radars: [0; 8],
         clock: 0,
         picture,
@@ -54,6 +57,7 @@ pub fn begins(s: State, frame: Frame, picture: u8, answer: Answer, effect: Effec
         frame,
         header,
         modes: [0; 8],
+        digits: [0; 12],
         marks: s.marks,
     };
     Decision {

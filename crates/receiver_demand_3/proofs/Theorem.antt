@@ -47,6 +47,7 @@ same-state s t e v =
       frame = record { place = e i .place; kind = e i .kind; picture = e i .picture; part = e i .part; due = e i .due; check = e i .check; count = count i };
       header = e i .header;
       modes = e i .modes;
+      digits = e i .digits;
       marks = e i .marks;
     }
 

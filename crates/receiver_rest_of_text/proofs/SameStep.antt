@@ -52,7 +52,7 @@ module _ (t : State) (g : List ℕ) (b : ℕ) where
   module _ (three : 3 ≤ t .frame .place) where
     -- a byte that is taken enters by its kind
     entered-same :
-        Means g b (byEntered t b (enters (t .frame .kind) (t .header) (t .modes) (t .frame .place) b))
+        Means g b (byEntered t b (enters (t .frame .kind) (t .header) (t .modes) (t .digits) (t .frame .place) b))
         (R.answers 0 (R.entered (stateOf t) u b) (R.enteredGrid (stateOf t) g b))
     unfolding enters goesOn numberOf applied enterGrid
     entered-same =
@@ -63,7 +63,7 @@ module _ (t : State) (g : List ℕ) (b : ℕ) where
     unfolding blockDecided entered isTaken R.blockByte
     block-same short =
         rw (le-leb 3 (t .frame .place) three, lt-ltb (t .frame .place) (blockLength (t .frame .kind)) short)
-        (by-test (takesByte (t .frame .kind) (t .header) (t .frame .place) b) (λ r. rw r entered-same) (λ r. rw r (lost-same 18)))
+        (by-test (takesByte (t .frame .kind) (t .header) (t .digits) (t .frame .place) b) (λ r. rw r entered-same) (λ r. rw r (lost-same 18)))
 
     pub text-same : Means g b (textDecided t b)
         (cond (ltb (t .frame .place) (blockLength (t .frame .kind))) (R.blockByte (stateOf t) g u b)

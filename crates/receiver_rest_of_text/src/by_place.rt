@@ -23,18 +23,21 @@ fn block_decided(s: State, b: u8) -> Decision
     let f = s.frame;
     let before = s.header;
     let modes_before = s.modes;
-    let e = enter_byte(f.kind, before, modes_before, f.place, b);
+    let digits_before = s.digits;
+    let e = enter_byte(f.kind, before, modes_before, digits_before, f.place, b);
     if !e.kept {
         return drops(s, 18);
     }
     let header = e.header;
     let modes = e.modes;
+    let digits = e.digits;
     let effect = e.effect;
     let entered = State {
         seen: s.seen,
         frame: f,
         header,
         modes,
+        digits,
         marks: s.marks,
     };
     goes_on(entered, advanced(f, f.check ^ b), Answer::Quiet, effect)

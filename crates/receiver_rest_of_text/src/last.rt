@@ -52,6 +52,7 @@ fn begun_part(s: State) -> Decision
 {
     let f = s.frame;
     let header = s.header;
+    let digits = s.digits;
     let part = part_of_kind(f.kind);
     let due = first_due(part, header);
     let no_modes = State {
@@ -59,6 +60,7 @@ fn begun_part(s: State) -> Decision
         frame: f,
         header,
         modes: [0; 8],
+        digits,
         marks: s.marks,
     };
     goes_on(

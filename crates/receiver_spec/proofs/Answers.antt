@@ -69,7 +69,7 @@ module _ (s : State) (g w : List ℕ) (b : ℕ) where
 
   block-known : Known (blockByte s g w b)
   unfolding blockByte
-  block-known = by-if Known (takesByte (s .kind) (s .header) (s .place) b) (λ _. refl) (λ _. refl)
+  block-known = by-if Known (takesByte (s .kind) (s .header) (s .digits) (s .place) b) (λ _. refl) (λ _. refl)
 
   eor-known : Known (eorByte s g w b)
   unfolding eorByte

@@ -14,7 +14,8 @@ use Rattle.general_laws.specs.Bytes.{_!_, isIn, every, allOf}
 use Rattle.text.specs.Text.{FD}
 use Rattle.text.specs.Pictures.{isPictureCode}
 use Rattle.text.specs.Kinds.{isKind, isStartKind, isEndKind, isDataKind, partOf, textNumber}
-use Rattle.text.specs.StartBlock.{isClockByte, clockOf, isTime, digitPlaces, stopPlaces, isDigit, digitsOf, isTimeText, timeTextOf, isRadarCode, follows, radarsOf, isStartBlock, headerOf}
+use Rattle.text.specs.StartBlock.{isClockByte, clockOf, digitPlaces, stopPlaces, isDigit, digitsOf, isTimeText, timeTextOf, isRadarCode, follows, radarsOf, isStartBlock, headerOf}
+use Rattle.text_calendar_spec.specs.TimeDigits.{isTime}
 use Rattle.text.specs.DataBlock.{isPayloadByte}
 use Rattle.text.specs.EndBlock.{radarPlaces, isModeByte, isEndBlock, modesOf, noModes}
 use Rattle.text.specs.declared.header.Header.{Header}
@@ -22,7 +23,8 @@ use Rattle.general_laws.proofs.Places.{places, by-place}
 use Rattle.text.proofs.Laws.{radars-by-place}
 use Rattle.general_laws.proofs.Tests.{and-split, and-join, neither, rule-at, every-at, every-in}
 use Rattle.text_laws.proofs.Blocks.{StartRules, start-rules, start-keeps, EndRules, end-rules, end-keeps}
-use Rattle.receiver_spec.specs.Contents.{timeTakes, startTakes, begunHeader, enterHeader, endTakes, enterModes, enterGrid, takesByte}
+use Rattle.receiver_spec.specs.State.{noDigits}
+use Rattle.receiver_spec.specs.Contents.{timeTakes, startTakes, begunHeader, enterHeader, enterDigits, endTakes, enterModes, enterGrid, takesByte}
 use Rattle.receiver_spec.proofs.Machine.{BlockContents, contents-end, contents-byte}
 use Rattle.receiver_spec.proofs.Instance.{Held, held, beginHeld, enterHeld, radar}
 use Rattle.text_laws.proofs.KindTable.{start-not-end, end-not-start}
@@ -31,7 +33,7 @@ use Rattle.text_laws.proofs.KindTable.{start-not-end, end-not-start}
 
 tests : ℕ → Held → ℕ → List ℕ → List Bool
 tests k c i [] = []
-tests k c i (x ∷ xs) = takesByte k (c .header) i x ∷ tests k (enterHeld k c i x) (suc i) xs
+tests k c i (x ∷ xs) = takesByte k (c .header) (c .digits) i x ∷ tests k (enterHeld k c i x) (suc i) xs
 
 puts : ℕ → Held → ℕ → List ℕ → Held
 puts k c i [] = c
@@ -46,39 +48,48 @@ contents-to : (marks k : ℕ) (c : Held) (i : ℕ) (xs : List ℕ) → allOf (te
 unfolding tests puts allOf
 contents-to marks k c i [] h = contents-end
 contents-to marks k c i (x ∷ xs) h =
-    let (a, b) = and-split (takesByte k (c .header) i x) (allOf (tests k (enterHeld k c i x) (suc i) xs)) h in
+    let (a, b) = and-split (takesByte k (c .header) (c .digits) i x) (allOf (tests k (enterHeld k c i x) (suc i) xs)) h in
     contents-byte a (contents-to marks k (enterHeld k c i x) (suc i) xs b)
 
 -- ---- the start block
 
-startTests : Header → ℕ → List ℕ → List Bool
-startTests h i [] = []
-startTests h i (x ∷ xs) = startTakes h i x ∷ startTests (enterHeader h i x) (suc i) xs
+startTests : Header → List ℕ → ℕ → List ℕ → List Bool
+startTests h ds i [] = []
+startTests h ds i (x ∷ xs) = startTakes h ds i x ∷ startTests (enterHeader h ds i x) (enterDigits ds i x) (suc i) xs
 
-startPuts : Header → ℕ → List ℕ → Header
-startPuts h i [] = h
-startPuts h i (x ∷ xs) = startPuts (enterHeader h i x) (suc i) xs
+startPuts : Header → List ℕ → ℕ → List ℕ → Header
+startPuts h ds i [] = h
+startPuts h ds i (x ∷ xs) = startPuts (enterHeader h ds i x) (enterDigits ds i x) (suc i) xs
+
+-- the digits that wait behind them
+startDigits : List ℕ → ℕ → List ℕ → List ℕ
+startDigits ds i [] = ds
+startDigits ds i (x ∷ xs) = startDigits (enterDigits ds i x) (suc i) xs
 
 module _ (k : ℕ) (s : isStartKind k ≡ true) where
-  takes-start : (h : Header) (i x : ℕ) → takesByte k h i x ≡ startTakes h i x
+  takes-start : (h : Header) (ds : List ℕ) (i x : ℕ) → takesByte k h ds i x ≡ startTakes h ds i x
   unfolding takesByte
-  takes-start h i x = rw s
+  takes-start h ds i x = rw s
 
-  enter-start : (c : Held) (i x : ℕ) → enterHeld k c i x ≡ held (enterHeader (c .header) i x) (c .modes) (c .grid)
+  -- what is held with one byte more
+  abbrev withStart : Held → ℕ → ℕ → Held
+  withStart c i x = held (enterHeader (c .header) (c .digits) i x) (c .modes) (enterDigits (c .digits) i x) (c .grid)
+
+  enter-start : (c : Held) (i x : ℕ) → enterHeld k c i x ≡ withStart c i x
   enter-start c i x = rw (s, start-not-end k s)
 
-  tests-start : (xs : List ℕ) (c : Held) (i : ℕ) → tests k c i xs ≡ startTests (c .header) i xs
+  tests-start : (xs : List ℕ) (c : Held) (i : ℕ) → tests k c i xs ≡ startTests (c .header) (c .digits) i xs
   unfolding tests startTests
   tests-start [] c i = refl
   tests-start (x ∷ xs) c i =
-      ap₂ (λ t ts. t ∷ ts) (takes-start (c .header) i x)
-      (ap (λ e. tests k e (suc i) xs) (enter-start c i x) ∙ tests-start xs (held (enterHeader (c .header) i x) (c .modes) (c .grid)) (suc i))
+      ap₂ (λ t ts. t ∷ ts) (takes-start (c .header) (c .digits) i x)
+      (ap (λ e. tests k e (suc i) xs) (enter-start c i x) ∙ tests-start xs (withStart c i x) (suc i))
 
-  puts-start : (xs : List ℕ) (c : Held) (i : ℕ) → puts k c i xs ≡ held (startPuts (c .header) i xs) (c .modes) (c .grid)
-  unfolding puts startPuts
+  puts-start : (xs : List ℕ) (c : Held) (i : ℕ) → puts k c i xs ≡ held (startPuts (c .header) (c .digits) i xs) (c .modes) (startDigits (c .digits) i xs) (c .grid)
+  unfolding puts startPuts startDigits
   puts-start [] c i = refl
   puts-start (x ∷ xs) c i =
-      ap (λ e. puts k e (suc i) xs) (enter-start c i x) ∙ puts-start xs (held (enterHeader (c .header) i x) (c .modes) (c .grid)) (suc i)
+      ap (λ e. puts k e (suc i) xs) (enter-start c i x) ∙ puts-start xs (withStart c i x) (suc i)
 
 -- the high part of the clock stays when the low part comes
 clock-joined : (a b : ℕ) → isClockByte a ≡ true → clockOf (clockOf a 0 / 128 % 128) b ≡ clockOf a b
@@ -100,8 +111,8 @@ unfolding isTimeText
 time-rules chars h = (rule-at _ h 0, rule-at _ h 1, rule-at _ h 2)
 
 module _ (q k : ℕ) (xs : List ℕ) (hq : isPictureCode q ≡ true) (s : isStartKind k ≡ true) where
-  start-from : allOf (startTests (begunHeader q) 3 (written xs)) ≡ true → StartRules (FD ∷ q ∷ k ∷ written xs)
-  unfolding startTests startTakes enterHeader begunHeader timeTakes isTimeText digitsOf isIn every allOf
+  start-from : allOf (startTests (begunHeader q) noDigits 3 (written xs)) ≡ true → StartRules (FD ∷ q ∷ k ∷ written xs)
+  unfolding startTests startTakes enterHeader enterDigits begunHeader timeTakes isTimeText digitsOf isIn every allOf
   start-from h =
       record {
         long = refl;
@@ -135,11 +146,11 @@ module _ (q k : ℕ) (xs : List ℕ) (hq : isPictureCode q ≡ true) (s : isStar
         radars = rw (radars-by-place (radarsOf (FD ∷ q ∷ k ∷ written xs)) refl, t 21, t 22, t 23, t 24, t 25, t 26, t 27, t 28);
       }
     where
-      t : (n : ℕ) → getD (startTests (begunHeader q) 3 (written xs)) n true ≡ true
-      t n = rule-at (startTests (begunHeader q) 3 (written xs)) h n
+      t : (n : ℕ) → getD (startTests (begunHeader q) noDigits 3 (written xs)) n true ≡ true
+      t n = rule-at (startTests (begunHeader q) noDigits 3 (written xs)) h n
 
-  start-to : StartRules (FD ∷ q ∷ k ∷ written xs) → allOf (startTests (begunHeader q) 3 (written xs)) ≡ true
-  unfolding startTests startTakes enterHeader begunHeader timeTakes isTimeText digitsOf isIn every allOf
+  start-to : StartRules (FD ∷ q ∷ k ∷ written xs) → allOf (startTests (begunHeader q) noDigits 3 (written xs)) ≡ true
+  unfolding startTests startTakes enterHeader enterDigits begunHeader timeTakes isTimeText digitsOf isIn every allOf
   start-to r =
       rw (
         eq-eqb (xs ! 0) 0 (r .null),
@@ -191,13 +202,19 @@ module _ (q k : ℕ) (xs : List ℕ) (hq : isPictureCode q ≡ true) (s : isStar
       next : (i : ℕ) → isIn i (places 1 7) ≡ true → follows (radars ! (i - 1)) (radars ! i) ≡ true
       next i m = every-in (λ i. follows (radars ! (i - 1)) (radars ! i)) (places 1 7) i (and-split (isRadarCode (xs ! 21)) _ listed .1) m
 
-  start-header : isClockByte (xs ! 3) ≡ true → startPuts (begunHeader q) 3 (written xs) ≡ headerOf (FD ∷ q ∷ k ∷ written xs)
-  unfolding startPuts enterHeader begunHeader headerOf digitsOf isIn
+  start-header : isClockByte (xs ! 3) ≡ true → startPuts (begunHeader q) noDigits 3 (written xs) ≡ headerOf (FD ∷ q ∷ k ∷ written xs)
+  unfolding startPuts enterHeader enterDigits begunHeader headerOf digitsOf isIn
   start-header h = rw (clock-joined (xs ! 3) (xs ! 4) h)
 
--- A start block is taken, byte by byte, exactly when it keeps its rules, and the header is then what the block gives
+-- behind a whole start block no digit waits
+start-digits : (xs : List ℕ) → startDigits noDigits 3 (written xs) ≡ noDigits
+unfolding startDigits enterDigits isIn
+start-digits xs = refl
+
+-- A start block is taken, byte by byte, exactly when it keeps its rules, and the header is then what the block gives; no digit
+-- waits behind it
 pub start-taken : (marks q k : ℕ) (a d : Held) (xs : List ℕ) → isPictureCode q ≡ true → isStartKind k ≡ true → length xs ≡ 29
-    → BlockContents (radar marks) k (beginHeld q a) 3 xs d ↔ ((isStartBlock (FD ∷ q ∷ k ∷ xs) ≡ true) × (d ≡ held (headerOf (FD ∷ q ∷ k ∷ xs)) noModes (a .grid)))
+    → BlockContents (radar marks) k (beginHeld q a) 3 xs d ↔ ((isStartBlock (FD ∷ q ∷ k ∷ xs) ≡ true) × (d ≡ held (headerOf (FD ∷ q ∷ k ∷ xs)) noModes noDigits (a .grid)))
 start-taken marks q k a d xs hq s l = (fro, to)
   where
     e : xs ≡ written xs
@@ -209,22 +226,23 @@ start-taken marks q k a d xs hq s l = (fro, to)
     clock : isStartBlock (FD ∷ q ∷ k ∷ xs) ≡ true → isClockByte (xs ! 3) ≡ true
     clock h = start-rules (FD ∷ q ∷ k ∷ xs) h .clockHigh
 
-    holds : isStartBlock (FD ∷ q ∷ k ∷ xs) ≡ true → puts k c 3 xs ≡ held (headerOf (FD ∷ q ∷ k ∷ xs)) noModes (a .grid)
+    holds : isStartBlock (FD ∷ q ∷ k ∷ xs) ≡ true → puts k c 3 xs ≡ held (headerOf (FD ∷ q ∷ k ∷ xs)) noModes noDigits (a .grid)
     holds h =
         puts-start k s xs c 3
-        ∙ ap (λ h. held h noModes (a .grid)) (ap (startPuts (begunHeader q) 3) e ∙ start-header q k xs hq s (clock h) ∙ ap (λ t. headerOf (FD ∷ q ∷ k ∷ t)) (sym e))
+        ∙ ap₂ (λ h ds. held h noModes ds (a .grid)) (ap (startPuts (begunHeader q) noDigits 3) e ∙ start-header q k xs hq s (clock h) ∙ ap (λ t. headerOf (FD ∷ q ∷ k ∷ t)) (sym e))
+        (ap (startDigits noDigits 3) e ∙ start-digits xs)
 
-    fro : BlockContents (radar marks) k c 3 xs d → (isStartBlock (FD ∷ q ∷ k ∷ xs) ≡ true) × (d ≡ held (headerOf (FD ∷ q ∷ k ∷ xs)) noModes (a .grid))
+    fro : BlockContents (radar marks) k c 3 xs d → (isStartBlock (FD ∷ q ∷ k ∷ xs) ≡ true) × (d ≡ held (headerOf (FD ∷ q ∷ k ∷ xs)) noModes noDigits (a .grid))
     fro r =
         let (t, f) = contents-from marks r in
-        let tests : allOf (startTests (begunHeader q) 3 (written xs)) ≡ true = subst (λ y. allOf (startTests (begunHeader q) 3 y) ≡ true) e (ap allOf (sym (tests-start k s xs c 3)) ∙ t) in
+        let tests : allOf (startTests (begunHeader q) noDigits 3 (written xs)) ≡ true = subst (λ y. allOf (startTests (begunHeader q) noDigits 3 y) ≡ true) e (ap allOf (sym (tests-start k s xs c 3)) ∙ t) in
         let ok : isStartBlock (FD ∷ q ∷ k ∷ xs) ≡ true = subst (λ y. isStartBlock (FD ∷ q ∷ k ∷ y) ≡ true) (sym e) (start-keeps (FD ∷ q ∷ k ∷ written xs) (start-from q k xs hq s tests)) in
         (ok, f ∙ holds ok)
 
-    to : (isStartBlock (FD ∷ q ∷ k ∷ xs) ≡ true) × (d ≡ held (headerOf (FD ∷ q ∷ k ∷ xs)) noModes (a .grid)) → BlockContents (radar marks) k c 3 xs d
+    to : (isStartBlock (FD ∷ q ∷ k ∷ xs) ≡ true) × (d ≡ held (headerOf (FD ∷ q ∷ k ∷ xs)) noModes noDigits (a .grid)) → BlockContents (radar marks) k c 3 xs d
     to (ok, f) =
         let r = start-rules (FD ∷ q ∷ k ∷ written xs) (subst (λ y. isStartBlock (FD ∷ q ∷ k ∷ y) ≡ true) e ok) in
-        let t = ap allOf (tests-start k s xs c 3) ∙ subst (λ y. allOf (startTests (begunHeader q) 3 y) ≡ true) (sym e) (start-to q k xs hq s r) in
+        let t = ap allOf (tests-start k s xs c 3) ∙ subst (λ y. allOf (startTests (begunHeader q) noDigits 3 y) ≡ true) (sym e) (start-to q k xs hq s r) in
         subst (BlockContents (radar marks) k c 3 xs) (holds ok ∙ sym f) (contents-to marks k c 3 xs t)
 
 -- ---- the data block
@@ -240,47 +258,47 @@ module _ (k : ℕ) (h : isDataKind k ≡ true) where
   abbrev base : ℕ
   base = 2000 * (textNumber k - 1)
 
-  takes-data : (g : Header) (i x : ℕ) → takesByte k g i x ≡ isPayloadByte (partOf k) x
+  takes-data : (g : Header) (ds : List ℕ) (i x : ℕ) → takesByte k g ds i x ≡ isPayloadByte (partOf k) x
   unfolding takesByte
-  takes-data g i x = rw (data-only k h .0, data-only k h .1)
+  takes-data g ds i x = rw (data-only k h .0, data-only k h .1)
 
-  enter-data : (c : Held) (i x : ℕ) → enterHeld k c i x ≡ held (c .header) (c .modes) (set (c .grid) (base + (i - 3)) x)
+  enter-data : (c : Held) (i x : ℕ) → enterHeld k c i x ≡ held (c .header) (c .modes) (c .digits) (set (c .grid) (base + (i - 3)) x)
   unfolding enterGrid
   enter-data c i x = rw (data-only k h .0, data-only k h .1)
 
   data-from : (marks : ℕ) {i : ℕ} {c d : Held} {xs : List ℕ} → BlockContents (radar marks) k c i xs d → 3 ≤ i
-      → (every (isPayloadByte (partOf k)) xs ≡ true) × (d ≡ held (c .header) (c .modes) (sets (c .grid) (base + (i - 3)) xs))
+      → (every (isPayloadByte (partOf k)) xs ≡ true) × (d ≡ held (c .header) (c .modes) (c .digits) (sets (c .grid) (base + (i - 3)) xs))
   unfolding every
   data-from marks contents-end l = (refl, refl)
   data-from marks {i} {c} (contents-byte {x} {xs} t r) l =
       let (p, q) = data-from marks r (omega arith) in
       let far : base + (suc i - 3) ≡ suc (base + (i - 3)) = omega arith in (
-        and-join (sym (takes-data (c .header) i x) ∙ t) p,
-        q ∙ ap₂ (λ (e : Held) j. held (e .header) (e .modes) (sets (e .grid) j xs)) (enter-data c i x) far,
+        and-join (sym (takes-data (c .header) (c .digits) i x) ∙ t) p,
+        q ∙ ap₂ (λ (e : Held) j. held (e .header) (e .modes) (e .digits) (sets (e .grid) j xs)) (enter-data c i x) far,
       )
 
   data-to : (marks i : ℕ) (c : Held) (xs : List ℕ) → every (isPayloadByte (partOf k)) xs ≡ true → 3 ≤ i
-      → BlockContents (radar marks) k c i xs (held (c .header) (c .modes) (sets (c .grid) (base + (i - 3)) xs))
+      → BlockContents (radar marks) k c i xs (held (c .header) (c .modes) (c .digits) (sets (c .grid) (base + (i - 3)) xs))
   unfolding every
   data-to marks i c [] t l = contents-end
   data-to marks i c (x ∷ xs) t l =
       let (p, q) = and-split (isPayloadByte (partOf k) x) (every (isPayloadByte (partOf k)) xs) t in
       let far : base + (suc i - 3) ≡ suc (base + (i - 3)) = omega arith in
-      contents-byte (takes-data (c .header) i x ∙ p)
-      (subst (λ (e : Held). BlockContents (radar marks) k e (suc i) xs (held (c .header) (c .modes) (sets (set (c .grid) (base + (i - 3)) x) (suc (base + (i - 3))) xs))) (sym (enter-data c i x))
-      (subst (λ j. BlockContents (radar marks) k (held (c .header) (c .modes) (set (c .grid) (base + (i - 3)) x)) (suc i) xs (held (c .header) (c .modes) (sets (set (c .grid) (base + (i - 3)) x) j xs))) far
-      (data-to marks (suc i) (held (c .header) (c .modes) (set (c .grid) (base + (i - 3)) x)) xs q (omega arith))))
+      contents-byte (takes-data (c .header) (c .digits) i x ∙ p)
+      (subst (λ (e : Held). BlockContents (radar marks) k e (suc i) xs (held (c .header) (c .modes) (c .digits) (sets (set (c .grid) (base + (i - 3)) x) (suc (base + (i - 3))) xs))) (sym (enter-data c i x))
+      (subst (λ j. BlockContents (radar marks) k (held (c .header) (c .modes) (c .digits) (set (c .grid) (base + (i - 3)) x)) (suc i) xs (held (c .header) (c .modes) (c .digits) (sets (set (c .grid) (base + (i - 3)) x) j xs))) far
+      (data-to marks (suc i) (held (c .header) (c .modes) (c .digits) (set (c .grid) (base + (i - 3)) x)) xs q (omega arith))))
 
 -- A data block is taken exactly when its payload keeps its rule, and the payload has then entered the grid
 pub data-taken : (marks k : ℕ) (c d : Held) (xs : List ℕ) → isDataKind k ≡ true
-    → BlockContents (radar marks) k c 3 xs d ↔ ((every (isPayloadByte (partOf k)) xs ≡ true) × (d ≡ held (c .header) (c .modes) (sets (c .grid) (2000 * (textNumber k - 1)) xs)))
+    → BlockContents (radar marks) k c 3 xs d ↔ ((every (isPayloadByte (partOf k)) xs ≡ true) × (d ≡ held (c .header) (c .modes) (c .digits) (sets (c .grid) (2000 * (textNumber k - 1)) xs)))
 data-taken marks k c d xs h = (
   λ r. let (p, q) = data-from k h marks r (lit≤ tt) in (p, q ∙ at),
   λ (p, q). subst (BlockContents (radar marks) k c 3 xs) (at ∙ sym q) (data-to k h marks 3 c xs p (lit≤ tt)),
 )
   where
-    at : held (c .header) (c .modes) (sets (c .grid) (2000 * (textNumber k - 1) + (3 - 3)) xs) ≡ held (c .header) (c .modes) (sets (c .grid) (2000 * (textNumber k - 1)) xs)
-    at = ap (λ j. held (c .header) (c .modes) (sets (c .grid) j xs)) (add-zero (2000 * (textNumber k - 1)))
+    at : held (c .header) (c .modes) (c .digits) (sets (c .grid) (2000 * (textNumber k - 1) + (3 - 3)) xs) ≡ held (c .header) (c .modes) (c .digits) (sets (c .grid) (2000 * (textNumber k - 1)) xs)
+    at = ap (λ j. held (c .header) (c .modes) (c .digits) (sets (c .grid) j xs)) (add-zero (2000 * (textNumber k - 1)))
 
 -- ---- the end block
 
@@ -293,25 +311,25 @@ endPuts modes i [] = modes
 endPuts modes i (x ∷ xs) = endPuts (enterModes modes i x) (suc i) xs
 
 module _ (k : ℕ) (s : isEndKind k ≡ true) where
-  takes-end : (h : Header) (i x : ℕ) → takesByte k h i x ≡ endTakes (h .radars) i x
+  takes-end : (h : Header) (ds : List ℕ) (i x : ℕ) → takesByte k h ds i x ≡ endTakes (h .radars) i x
   unfolding takesByte
-  takes-end h i x = rw (end-not-start k s, s)
+  takes-end h ds i x = rw (end-not-start k s, s)
 
-  enter-end : (c : Held) (i x : ℕ) → enterHeld k c i x ≡ held (c .header) (enterModes (c .modes) i x) (c .grid)
+  enter-end : (c : Held) (i x : ℕ) → enterHeld k c i x ≡ held (c .header) (enterModes (c .modes) i x) (c .digits) (c .grid)
   enter-end c i x = rw (end-not-start k s, s)
 
   tests-end : (xs : List ℕ) (c : Held) (i : ℕ) → tests k c i xs ≡ endTests (c .header .radars) i xs
   unfolding tests endTests
   tests-end [] c i = refl
   tests-end (x ∷ xs) c i =
-      ap₂ (λ t ts. t ∷ ts) (takes-end (c .header) i x)
-      (ap (λ e. tests k e (suc i) xs) (enter-end c i x) ∙ tests-end xs (held (c .header) (enterModes (c .modes) i x) (c .grid)) (suc i))
+      ap₂ (λ t ts. t ∷ ts) (takes-end (c .header) (c .digits) i x)
+      (ap (λ e. tests k e (suc i) xs) (enter-end c i x) ∙ tests-end xs (held (c .header) (enterModes (c .modes) i x) (c .digits) (c .grid)) (suc i))
 
-  puts-end : (xs : List ℕ) (c : Held) (i : ℕ) → puts k c i xs ≡ held (c .header) (endPuts (c .modes) i xs) (c .grid)
+  puts-end : (xs : List ℕ) (c : Held) (i : ℕ) → puts k c i xs ≡ held (c .header) (endPuts (c .modes) i xs) (c .digits) (c .grid)
   unfolding puts endPuts
   puts-end [] c i = refl
   puts-end (x ∷ xs) c i =
-      ap (λ e. puts k e (suc i) xs) (enter-end c i x) ∙ puts-end xs (held (c .header) (enterModes (c .modes) i x) (c .grid)) (suc i)
+      ap (λ e. puts k e (suc i) xs) (enter-end c i x) ∙ puts-end xs (held (c .header) (enterModes (c .modes) i x) (c .digits) (c .grid)) (suc i)
 
 module _ (radars : List ℕ) (q k : ℕ) (xs : List ℕ) (hq : isPictureCode q ≡ true) (s : isEndKind k ≡ true) where
   end-from : allOf (endTests radars 3 (written xs)) ≡ true → EndRules radars (FD ∷ q ∷ k ∷ written xs)
@@ -345,27 +363,27 @@ module _ (radars : List ℕ) (q k : ℕ) (xs : List ℕ) (hq : isPictureCode q �
 
 -- An end block is taken exactly when it keeps its rules for the radars of the header, and the modes, whatever they were,
 -- are then what it gives
-pub end-taken : (marks q k : ℕ) (h : Header) (m g : List ℕ) (d : Held) (xs : List ℕ) → isPictureCode q ≡ true → isEndKind k ≡ true → length m ≡ 8 → length xs ≡ 29
-    → BlockContents (radar marks) k (held h m g) 3 xs d ↔ ((isEndBlock (h .radars) (FD ∷ q ∷ k ∷ xs) ≡ true) × (d ≡ held h (modesOf (FD ∷ q ∷ k ∷ xs)) g))
-end-taken marks q k h m g d xs hq s eight l = (fro, to)
+pub end-taken : (marks q k : ℕ) (h : Header) (m ds g : List ℕ) (d : Held) (xs : List ℕ) → isPictureCode q ≡ true → isEndKind k ≡ true → length m ≡ 8 → length xs ≡ 29
+    → BlockContents (radar marks) k (held h m ds g) 3 xs d ↔ ((isEndBlock (h .radars) (FD ∷ q ∷ k ∷ xs) ≡ true) × (d ≡ held h (modesOf (FD ∷ q ∷ k ∷ xs)) ds g))
+end-taken marks q k h m ds g d xs hq s eight l = (fro, to)
   where
     e : xs ≡ written xs
     e = by-place 29 xs l
 
     c : Held
-    c = held h m g
+    c = held h m ds g
 
-    holds : puts k c 3 xs ≡ held h (modesOf (FD ∷ q ∷ k ∷ xs)) g
+    holds : puts k c 3 xs ≡ held h (modesOf (FD ∷ q ∷ k ∷ xs)) ds g
     holds =
-        puts-end k s xs c 3 ∙ ap (λ m. held h m g) (ap (endPuts m 3) e ∙ end-modes (h .radars) q k xs hq s m eight ∙ ap (λ t. modesOf (FD ∷ q ∷ k ∷ t)) (sym e))
+        puts-end k s xs c 3 ∙ ap (λ m. held h m ds g) (ap (endPuts m 3) e ∙ end-modes (h .radars) q k xs hq s m eight ∙ ap (λ t. modesOf (FD ∷ q ∷ k ∷ t)) (sym e))
 
-    fro : BlockContents (radar marks) k c 3 xs d → (isEndBlock (h .radars) (FD ∷ q ∷ k ∷ xs) ≡ true) × (d ≡ held h (modesOf (FD ∷ q ∷ k ∷ xs)) g)
+    fro : BlockContents (radar marks) k c 3 xs d → (isEndBlock (h .radars) (FD ∷ q ∷ k ∷ xs) ≡ true) × (d ≡ held h (modesOf (FD ∷ q ∷ k ∷ xs)) ds g)
     fro r =
         let (t, f) = contents-from marks r in
         let tests : allOf (endTests (h .radars) 3 (written xs)) ≡ true = subst (λ y. allOf (endTests (h .radars) 3 y) ≡ true) e (ap allOf (sym (tests-end k s xs c 3)) ∙ t) in
         (subst (λ y. isEndBlock (h .radars) (FD ∷ q ∷ k ∷ y) ≡ true) (sym e) (end-keeps (h .radars) (FD ∷ q ∷ k ∷ written xs) (end-from (h .radars) q k xs hq s tests)), f ∙ holds)
 
-    to : (isEndBlock (h .radars) (FD ∷ q ∷ k ∷ xs) ≡ true) × (d ≡ held h (modesOf (FD ∷ q ∷ k ∷ xs)) g) → BlockContents (radar marks) k c 3 xs d
+    to : (isEndBlock (h .radars) (FD ∷ q ∷ k ∷ xs) ≡ true) × (d ≡ held h (modesOf (FD ∷ q ∷ k ∷ xs)) ds g) → BlockContents (radar marks) k c 3 xs d
     to (ok, f) =
         let r = end-rules (h .radars) (FD ∷ q ∷ k ∷ written xs) (subst (λ y. isEndBlock (h .radars) (FD ∷ q ∷ k ∷ y) ≡ true) e ok) in
         let t = ap allOf (tests-end k s xs c 3) ∙ subst (λ y. allOf (endTests (h .radars) 3 y) ≡ true) (sym e) (end-to (h .radars) q k xs hq s r) in

@@ -20,8 +20,8 @@ use Rattle.text_laws.proofs.KindTable.{start-is-kind, block-least, start-block-
 use Rattle.text_laws.proofs.Payload.{payload-below}
 use Rattle.receiver_spec.specs.Seen.{push, endsOpening, dueByte}
 use Rattle.receiver_spec.specs.Marks.{isMarked}
-use Rattle.receiver_spec.specs.State.{State, emptyGrid}
-use Rattle.receiver_spec.specs.Contents.{timeTakes, startTakes, begunHeader, enterHeader, endTakes, enterModes, enterGrid, takesByte}
+use Rattle.receiver_spec.specs.State.{State, noDigits, emptyGrid}
+use Rattle.receiver_spec.specs.Contents.{timeTakes, startTakes, begunHeader, enterHeader, enterDigits, endTakes, enterModes, enterGrid, takesByte}
 use Rattle.receiver_spec.specs.Receiver.{Step, opened, gapByte, pictureByte, kindByte, blockByte, eorByte, checkedByte, firstDue, nextDue, modeIsHighest, lastByte, placedByte, step}
 use Rattle.receiver_spec.proofs.MarkLaws.{unlisted-unmarked}
 use Rattle.receiver_spec.proofs.Machine.{Rules, Machine, Out, mk, answering, opens, inGap, atPicture, atKind, inBlock, atEor, atCheck, atLast, placed, move, BlockContents, contents-end, contents-byte}
@@ -30,18 +30,20 @@ use Rattle.receiver_spec.proofs.Steps.{RuleLaws, Free, free0, free1}
 pub record Held : Type 0 where
   pub header : Header
   pub modes : List ℕ
+  pub digits : List ℕ
   pub grid : List ℕ
 
-abbrev pub held : Header → List ℕ → List ℕ → Held
-held h m g = record { header = h; modes = m; grid = g }
+abbrev pub held : Header → List ℕ → List ℕ → List ℕ → Held
+held h m ds g = record { header = h; modes = m; digits = ds; grid = g }
 
 -- a start kind is taken; a block byte enters
 abbrev pub beginHeld : ℕ → Held → Held
-beginHeld q c = held (begunHeader q) noModes (c .grid)
+beginHeld q c = held (begunHeader q) noModes noDigits (c .grid)
 
 abbrev pub enterHeld : ℕ → Held → ℕ → ℕ → Held
 enterHeld k c i b =
-    held (cond (isStartKind k) (enterHeader (c .header) i b) (c .header)) (cond (isEndKind k) (enterModes (c .modes) i b) (c .modes))
+    held (cond (isStartKind k) (enterHeader (c .header) (c .digits) i b) (c .header)) (cond (isEndKind k) (enterModes (c .modes) i b) (c .modes))
+    (cond (isStartKind k) (enterDigits (c .digits) i b) (c .digits))
     (cond (isStartKind k || isEndKind k) (c .grid) (enterGrid (c .grid) (textNumber k) i b))
 
 -- the rules of a receiver with these marks: the marked pictures are its pictures, and another byte breaks row 13, or row
@@ -50,7 +52,7 @@ abbrev pub radar : ℕ → Rules
 radar marks =
     record {
       Held = Held;
-      blank = held blankHeader noModes emptyGrid;
+      blank = held blankHeader noModes noDigits emptyGrid;
       isPicture = isMarked marks;
       noPicture = λ b. cond (isPictureCode b) 51 13;
       isKind = isKind;
@@ -61,9 +63,9 @@ radar marks =
       partOf = partOf;
       pictureOf = λ c. c .header .picture;
       begin = beginHeld;
-      takes = λ k c i b. takesByte k (c .header) i b;
+      takes = λ k c i b. takesByte k (c .header) (c .digits) i b;
       enter = enterHeld;
-      settle = λ c. held (c .header) noModes emptyGrid;
+      settle = λ c. held (c .header) noModes (c .digits) emptyGrid;
       firstDue = λ k c. firstDue (partOf k) (c .header);
       nextDue = λ p k. nextDue p (textNumber k);
       closes = λ c. modeIsHighest (c .header) (c .modes);
@@ -110,7 +112,7 @@ module _ (s : State) (g w : List ℕ) (b : ℕ) where
       (λ _. by-if Keeps (eqb (s .place) 1) (λ _. picture-keeps)
       (λ _. by-if Keeps (eqb (s .place) 2) (λ _. kind-keeps)
       (λ _. by-if Keeps (ltb (s .place) (blockLength (s .kind)))
-      (λ _. by-if Keeps (takesByte (s .kind) (s .header) (s .place) b) (λ _. refl) (λ _. refl))
+      (λ _. by-if Keeps (takesByte (s .kind) (s .header) (s .digits) (s .place) b) (λ _. refl) (λ _. refl))
       (λ _. by-if Keeps (eqb (s .place) (blockLength (s .kind))) (λ _. by-if Keeps (eqb b EOR) (λ _. refl) (λ _. refl))
       (λ _. by-if Keeps (eqb (s .place) (suc (blockLength (s .kind)))) (λ _. by-if Keeps (eqb b (s .check)) (λ _. refl) (λ _. refl)) (λ _. last-keeps))))))
 
@@ -127,7 +129,7 @@ module _ (marks : ℕ) where
   -- ---- a step is a move
 
   abbrev pub machine : State → List ℕ → Machine R
-  machine s g = mk R (s .seen) (s .place) (s .kind) (s .picture) (s .part) (s .due) (s .check) (held (s .header) (s .modes) g)
+  machine s g = mk R (s .seen) (s .place) (s .kind) (s .picture) (s .part) (s .due) (s .check) (held (s .header) (s .modes) (s .digits) g)
 
   abbrev pub out : Step → Out R
   out o = answering R (o .answer) (machine (o .state) (o .grid))
@@ -164,7 +166,7 @@ module _ (marks : ℕ) where
 
     block-is : Means (blockByte s g w b) (inBlock R (machine s g) w b)
     unfolding blockByte inBlock
-    block-is = both-read (takesByte (s .kind) (s .header) (s .place) b) reads reads
+    block-is = both-read (takesByte (s .kind) (s .header) (s .digits) (s .place) b) reads reads
 
     eor-is : Means (eorByte s g w b) (atEor R (machine s g) w b)
     unfolding eorByte atEor
@@ -201,9 +203,9 @@ module _ (marks : ℕ) where
   -- ---- the laws
 
   -- `FD` is taken as status 1 alone
-  start-FD : (h : Header) (i : ℕ) → startTakes h i FD ≡ true → i ≡ 4
+  start-FD : (h : Header) (ds : List ℕ) (i : ℕ) → startTakes h ds i FD ≡ true → i ≡ 4
   unfolding startTakes timeTakes hasMode modeOf bit isClockByte isDigit isRadarCode radarCodes follows isIn
-  start-FD h i t =
+  start-FD h ds i t =
       by-if P (eqb i 3) (λ e t. never refl t)
       (λ _. by-if P (eqb i 4) (λ e t. eqb-true i 4 e)
       (λ _. by-if P (eqb i 5) (λ e t. never refl t)
@@ -219,9 +221,9 @@ module _ (marks : ℕ) where
   mode-FD code v z n = by-test (eqb code 0) (λ e. rw (e, z)) (λ e. rw (e, n))
 
   -- a byte that no mode and no `00` is, above the payload's, is taken by no end or data block
-  none-takes : (k v : ℕ) (h : Header) (i : ℕ) → isStartKind k ≡ false → 0xFD ≤ v → hasMode v ≡ false → takesByte k h i v ≡ false
+  none-takes : (k v : ℕ) (h : Header) (ds : List ℕ) (i : ℕ) → isStartKind k ≡ false → 0xFD ≤ v → hasMode v ≡ false → takesByte k h ds i v ≡ false
   unfolding takesByte endTakes
-  none-takes k v h i s l n =
+  none-takes k v h ds i s l n =
       let z : eqb v 0 ≡ false = ne-eqb v 0 (λ e. omega arith) in
       rw s
       (by-if (λ t. t ≡ false) (isEndKind k) (λ _. by-if (λ t. t ≡ false) (leb i 10) (λ _. mode-FD (h .radars ! (i - 3)) v z n) (λ _. z))
@@ -235,25 +237,25 @@ module _ (marks : ℕ) where
   unfolding hasMode modeOf bit
   modeless-EOR = refl
 
-  FD-only : (k : ℕ) (h : Header) (i : ℕ) → takesByte k h i FD ≡ true → (isStartKind k ≡ true) × (i ≡ 4)
+  FD-only : (k : ℕ) (h : Header) (ds : List ℕ) (i : ℕ) → takesByte k h ds i FD ≡ true → (isStartKind k ≡ true) × (i ≡ 4)
   unfolding takesByte
-  FD-only k h i t =
-      by-test (isStartKind k) (λ s. (s, start-FD h i (rw s at t))) (λ s. never (none-takes k FD h i s (lit≤ tt) modeless-FD) t)
+  FD-only k h ds i t =
+      by-test (isStartKind k) (λ s. (s, start-FD h ds i (rw s at t))) (λ s. never (none-takes k FD h ds i s (lit≤ tt) modeless-FD) t)
 
   -- the NULL byte
-  null-only : (k b : ℕ) (h : Header) → isStartKind k ≡ true → takesByte k h 3 b ≡ true → b ≡ 0
+  null-only : (k b : ℕ) (h : Header) (ds : List ℕ) → isStartKind k ≡ true → takesByte k h ds 3 b ≡ true → b ≡ 0
   unfolding takesByte startTakes
-  null-only k b h s t = eqb-true b 0 (rw s at t)
+  null-only k b h ds s t = eqb-true b 0 (rw s at t)
 
   free-EOR : {k i : ℕ} {c d : Held} {xs : List ℕ} → isStartKind k ≡ false → BlockContents R k c i xs d → Free EOR xs
   free-EOR s contents-end = free0
   free-EOR {k} {i} {c} s (contents-byte {x} h r) =
-      free1 (λ e. never (none-takes k EOR (c .header) i s (lit≤ tt) modeless-EOR) (subst (λ v. takesByte k (c .header) i v ≡ true) e h)) (free-EOR s r)
+      free1 (λ e. never (none-takes k EOR (c .header) (c .digits) i s (lit≤ tt) modeless-EOR) (subst (λ v. takesByte k (c .header) (c .digits) i v ≡ true) e h)) (free-EOR s r)
 
   free-FD : {k i : ℕ} {c d : Held} {xs : List ℕ} → 4 < i → BlockContents R k c i xs d → Free FD xs
   free-FD l contents-end = free0
   free-FD {k} {i} {c} l (contents-byte {x} h r) =
-      free1 {x = x} (λ e. omega (arith, FD-only k (c .header) i (subst (λ v. takesByte k (c .header) i v ≡ true) e h) .1)) (free-FD (omega arith) r)
+      free1 {x = x} (λ e. omega (arith, FD-only k (c .header) (c .digits) i (subst (λ v. takesByte k (c .header) (c .digits) i v ≡ true) e h) .1)) (free-FD (omega arith) r)
 
   FD-places : (k : ℕ) (c e : Held) (xs : List ℕ) → isKind k ≡ true → BlockContents R k c 3 xs e → Free FD xs ⊎ ((vs : List ℕ) × (xs ≡ 0 ∷ FD ∷ vs) × Free FD vs)
   FD-places k c e xs hk r = first r
@@ -263,17 +265,17 @@ module _ (marks : ℕ) where
       second {d} {x} f n (contents-byte {x = y} {xs = ys} h r) =
           by-test (eqb y FD)
           (λ t. let g = eqb-true y FD t in
-          inr (ys, ap₂ (λ a b. a ∷ b ∷ ys) (f (FD-only k (d .header) 4 (subst (λ v. takesByte k (d .header) 4 v ≡ true) g h) .0)) g, free-FD (omega arith) r))
+          inr (ys, ap₂ (λ a b. a ∷ b ∷ ys) (f (FD-only k (d .header) (d .digits) 4 (subst (λ v. takesByte k (d .header) (d .digits) 4 v ≡ true) g h) .0)) g, free-FD (omega arith) r))
           (λ t. inl (free1 n (free1 (eqb-false y FD t) (free-FD (omega arith) r))))
 
       first : {c e : Held} {ys : List ℕ} → BlockContents R k c 3 ys e → Free FD ys ⊎ ((vs : List ℕ) × (ys ≡ 0 ∷ FD ∷ vs) × Free FD vs)
       first contents-end = inl free0
       first {c} (contents-byte {x} h r) =
-          second (λ s. null-only k x (c .header) s h) (λ g. omega (arith, FD-only k (c .header) 3 (subst (λ v. takesByte k (c .header) 3 v ≡ true) g h) .1)) r
+          second (λ s. null-only k x (c .header) (c .digits) s h) (λ g. omega (arith, FD-only k (c .header) (c .digits) 3 (subst (λ v. takesByte k (c .header) (c .digits) 3 v ≡ true) g h) .1)) r
 
   -- a start block does not look at the grid
   abbrev over : Held → List ℕ → Held
-  over c g = held (c .header) (c .modes) g
+  over c g = held (c .header) (c .modes) (c .digits) g
 
   contents-over : {k i : ℕ} {c d : Held} {xs : List ℕ} (g : List ℕ) → isStartKind k ≡ true → BlockContents R k c i xs d → BlockContents R k (over c g) i xs (over d g)
   contents-over g s contents-end = contents-end
@@ -297,7 +299,7 @@ module _ (marks : ℕ) where
         start-kind = start-is-kind;
         part-some = part-some;
         long-3 = λ k h. omega (arith, block-least k h);
-        fd-first = λ k c _. by-test (takesByte k (c .header) 3 FD) (λ t. absurd (omega (arith, FD-only k (c .header) 3 t .1))) (λ t. t);
+        fd-first = λ k c _. by-test (takesByte k (c .header) (c .digits) 3 FD) (λ t. absurd (omega (arith, FD-only k (c .header) (c .digits) 3 t .1))) (λ t. t);
         fd-after = λ k i c h. after k i c h;
         begin-any = λ k q a b d xs s r. (over d (b .grid), contents-over (b .grid) s r, refl, refl);
         tpad-picture = unlisted-unmarked marks TPAD refl;
@@ -307,10 +309,10 @@ module _ (marks : ℕ) where
         shortest = λ j k s h. omega (arith, start-block-length j s, block-least k h);
       }
     where
-      after : (k i : ℕ) (c : Held) → takesByte k (c .header) i STX ≡ true → takesByte k (R .enter k c i STX .header) (suc i) FD ≡ false
+      after : (k i : ℕ) (c : Held) → takesByte k (c .header) (c .digits) i STX ≡ true → takesByte k (R .enter k c i STX .header) (R .enter k c i STX .digits) (suc i) FD ≡ false
       after k i c h =
-          by-test (takesByte k (R .enter k c i STX .header) (suc i) FD)
-          (λ t. let (s, e) = FD-only k (R .enter k c i STX .header) (suc i) t in
+          by-test (takesByte k (R .enter k c i STX .header) (R .enter k c i STX .digits) (suc i) FD)
+          (λ t. let (s, e) = FD-only k (R .enter k c i STX .header) (R .enter k c i STX .digits) (suc i) t in
           let three : i ≡ 3 = omega arith in
-          absurd (omega (arith, null-only k STX (c .header) s (subst (λ n. takesByte k (c .header) n STX ≡ true) three h))))
+          absurd (omega (arith, null-only k STX (c .header) (c .digits) s (subst (λ n. takesByte k (c .header) (c .digits) n STX ≡ true) three h))))
           (λ t. t)

@@ -10,6 +10,8 @@ pub use Rattle.receiver_spec.proofs.MarkLaws.{marks-claim, marked-liste
 pub use Rattle.receiver_spec.proofs.CallLists.{PossibleOnGrid, fresh-sound, steps-sound, calls-sound, sound-possible, not-refused, number-answered, slice-taken, slice-count-most, Stepped, calls-stepped, singly-taken, spread-last, answers-append, state-append, grid-append}
 -- What a possible state says of its place
 pub use Rattle.receiver_spec.proofs.Possible.{place-after-kind, place-in-text, kind-by-place}
+-- The digits of the time that wait: what refusal 2 asks of them, and what calls leave of them
+pub use Rattle.receiver_spec.proofs.DigitRows.{waiting-claim}
 -- A text under way: what one byte does to it, and the opening that it began with
 pub use Rattle.receiver_spec.proofs.UnderWay.{TextMoves, goesOn, ends, dropped, text-moves, last-due, ends-text, place-most, since-opening, Began, began}
 -- The running check byte

@@ -17,9 +17,11 @@ pub mod Instance
 pub mod BlockRules
 pub mod WholeParts
 -- possible states, and lists of calls
+pub mod Waiting
 pub mod Possible
 pub mod Answers
 pub mod CallLists
+pub mod DigitRows
 -- complete comes at a part's last byte and not before; how a part is answered
 pub mod NotBefore
 pub mod PartAnswers

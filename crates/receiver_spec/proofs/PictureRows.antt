@@ -2,7 +2,7 @@
 -- refusal 2 asks of the marks. Assumes nothing.
 use mathlib.Core.Path.{_≡_, refl, sym, ap, _∙_}
 use mathlib.Core.Logic.{_↔_}
-use mathlib.Core.Bool.{Bool, true, false, cond, not, _&&_, _||_}
+use mathlib.Core.Bool.{Bool, true, false, cond, not, _&&_, _||_, and-true, and-false}
 use mathlib.Core.List.{List}
 use Prim.Native.Nat.{ℕ, suc}
 use native.Mathlib.Omega.{arith}
@@ -16,7 +16,7 @@ use Rattle.text.specs.Kinds.{isKind, isStartKind, isEndKind, kindOf, blockLengt
 use Rattle.general_laws.proofs.Tests.{by-if, never}
 use Rattle.receiver_spec.specs.Seen.{push, endsOpening, dueByte}
 use Rattle.receiver_spec.specs.Marks.{isMarked, areMarks, noMarks}
-use Rattle.receiver_spec.specs.State.{State, isDue, fitsPart, kindUnread, kindRead, isPossible}
+use Rattle.receiver_spec.specs.State.{State, isDue, fitsPart, kindUnread, kindRead, awaitsTime, areWaiting, isPossible}
 use Rattle.receiver_spec.specs.Contents.{takesByte}
 use Rattle.receiver_spec.specs.Receiver.{Step, drops, opened, gapByte, pictureByte, kindByte, blockByte, eorByte, checkedByte, modeIsHighest, lastByte, placedByte, step}
 
@@ -61,7 +61,7 @@ module _ (s : State) (g w : List ℕ) (b : ℕ) where
       (λ _. by-if AtPicture (eqb (s .place) 1) (λ one. here (eqb-true (s .place) 1 one) refl)
       (λ _. by-if AtPicture (eqb (s .place) 2) (λ _. elsewhere kind-other)
       (λ _. by-if AtPicture (ltb (s .place) (blockLength (s .kind)))
-      (λ _. by-if AtPicture (takesByte (s .kind) (s .header) (s .place) b) (λ _. elsewhere refl) (λ _. elsewhere refl))
+      (λ _. by-if AtPicture (takesByte (s .kind) (s .header) (s .digits) (s .place) b) (λ _. elsewhere refl) (λ _. elsewhere refl))
       (λ _. by-if AtPicture (eqb (s .place) (blockLength (s .kind))) (λ _. by-if AtPicture (eqb b EOR) (λ _. elsewhere refl) (λ _. elsewhere refl))
       (λ _. by-if AtPicture (eqb (s .place) (suc (blockLength (s .kind)))) (λ _. by-if AtPicture (eqb b (s .check)) (λ _. elsewhere refl) (λ _. elsewhere refl))
       (λ _. elsewhere last-other))))))
@@ -124,17 +124,17 @@ row-13-drops s g b o one l = simp (o, one, l) refl
 
 -- Row 2: besides what it asked before, refusal 2 asks of the marks that none is beyond the twentieth, and nothing else; so a picture
 -- code under way, or an open part's, may be unmarked
-abbrev unmarkedAll : State → State
-unmarkedAll s =
-    record { seen = s .seen; place = s .place; kind = s .kind; picture = s .picture; part = s .part; due = s .due; check = s .check; header = s .header; modes = s .modes; marks = noMarks }
+abbrev withMarks : State → ℕ → State
+withMarks s marks =
+    record { seen = s .seen; place = s .place; kind = s .kind; picture = s .picture; part = s .part; due = s .due; check = s .check; header = s .header; modes = s .modes; digits = s .digits; marks = marks }
 
-apart : (a b c d : Bool) → (a && (b && (c && (d && true)))) ≡ ((a && (b && (c && (true && true)))) && d)
-apart true true true true = refl
-apart true true true false = refl
-apart true true false d = refl
-apart true false c d = refl
-apart false b c d = refl
+apart : (a b c d e : Bool) → (a && (b && (c && (d && (e && true))))) ≡ ((a && (b && (c && (true && (e && true))))) && d)
+apart true true true true e = sym (and-true (e && true))
+apart true true true false e = sym (and-false (e && true))
+apart true true false d e = refl
+apart true false c d e = refl
+apart false b c d e = refl
 
-pub row-2-marks : (s : State) → isPossible s ≡ (isPossible (unmarkedAll s) && areMarks (s .marks))
-unfolding isPossible allOf kindUnread kindRead fitsPart areMarks
-row-2-marks s = apart (leb (length (s .seen)) 5) (isDue (s .part) (s .due)) (cond (eqb (s .kind) 0) (kindUnread s) (kindRead s)) (areMarks (s .marks))
+pub row-2-marks : (s : State) → isPossible s ≡ (isPossible (withMarks s noMarks) && areMarks (s .marks))
+unfolding isPossible allOf kindUnread kindRead fitsPart areMarks areWaiting awaitsTime
+row-2-marks s = apart (leb (length (s .seen)) 5) (isDue (s .part) (s .due)) (cond (eqb (s .kind) 0) (kindUnread s) (kindRead s)) (areMarks (s .marks)) (areWaiting s)

@@ -7,7 +7,7 @@ use Prim.Native.Nat.{ℕ, suc, _+_, _≤_, _<_}
 use native.Mathlib.Omega.{arith}
 use lib.Dec.{eqb, ltb, leb, lit≤}
 use lib.ListN.{length, length-set, length-take, length-replicate}
-use borrow.Author.Tests.{eqb-true, eqb-false, ltb-true, leb-true, le-leb, eq-eqb, ne-eqb, not-false}
+use borrow.Author.Tests.{eqb-true, eqb-false, ltb-true, ltb-false, leb-true, le-leb, eq-eqb, ne-eqb, not-false}
 use Rattle.general_laws.specs.Bytes.{allOf}
 use Rattle.text.specs.Text.{EOR, TPAD}
 use Rattle.text.specs.Pictures.{isPictureCode}
@@ -19,11 +19,12 @@ use Rattle.general_laws.proofs.Computed.{tabled}
 use Rattle.text_laws.proofs.KindTable.{kind-part, text-back, no-kind-0, block-least}
 use Rattle.receiver_spec.specs.Seen.{push, endsOpening, dueByte}
 use Rattle.receiver_spec.specs.Marks.{isMarked, areMarks}
-use Rattle.receiver_spec.specs.State.{State, fresh, emptyGrid, isDue, fitsPart, kindUnread, kindRead, isPossible}
+use Rattle.receiver_spec.specs.State.{State, fresh, emptyGrid, isDue, fitsPart, kindUnread, kindRead, areWaiting, isPossible}
 use Rattle.receiver_spec.specs.Contents.{takesByte, enterGrid}
 use Rattle.receiver_spec.specs.Receiver.{Step, drops, opened, gapByte, pictureByte, kindByte, blockByte, eorByte, checkedByte, firstDue, nextDue, modeIsHighest, lastByte, placedByte, step}
 use Rattle.receiver_spec.proofs.MarkLaws.{from-marks}
 use Rattle.receiver_spec.proofs.WholeParts.{first-due}
+use Rattle.receiver_spec.proofs.Waiting.{AllZero, zero-waits, none-waits, zero-elsewhere, not-yet, closing, entered-waits}
 
 -- ---- possible states by cases
 
@@ -38,10 +39,11 @@ pub record Possible (s : State) : Type 0 where
   pub due : isDue (s .part) (s .due) ≡ true
   pub shape : Shape s
   pub marks : areMarks (s .marks) ≡ true
+  pub waiting : areWaiting s ≡ true
 
 pub possible-keeps : (s : State) → Possible s → isPossible s ≡ true
 unfolding isPossible allOf kindUnread kindRead
-possible-keeps s p = and-join (le-leb _ _ (p .few)) (and-join (p .due) (and-join (go (p .shape)) (and-join (p .marks) refl)))
+possible-keeps s p = and-join (le-leb _ _ (p .few)) (and-join (p .due) (and-join (go (p .shape)) (and-join (p .marks) (and-join (p .waiting) refl))))
   where
     go : Shape s → cond (eqb (s .kind) 0) (kindUnread s) (kindRead s) ≡ true
     go (between i k q c) = rw (eq-eqb (s .kind) 0 k, eq-eqb (s .place) 0 i, eq-eqb (s .picture) 0 q, eq-eqb (s .check) 0 c)
@@ -54,7 +56,7 @@ possible-keeps s p = and-join (le-leb _ _ (p .few)) (and-join (p .due) (and-join
 
 pub possible-facts : (s : State) → isPossible s ≡ true → Possible s
 unfolding isPossible kindUnread kindRead
-possible-facts s h = record { few = leb-true _ _ (rule-at _ h 0); due = rule-at _ h 1; shape = go (rule-at _ h 2); marks = rule-at _ h 3 }
+possible-facts s h = record { few = leb-true _ _ (rule-at _ h 0); due = rule-at _ h 1; shape = go (rule-at _ h 2); marks = rule-at _ h 3; waiting = rule-at _ h 4 }
   where
     read : kindRead s ≡ true → Shape s
     read t = inText (leb-true _ _ (rule-at _ t 0)) (leb-true _ _ (rule-at _ t 1)) (rule-at _ t 2) (rule-at _ t 3) (rule-at _ t 4)
@@ -164,75 +166,79 @@ pub grid-long : length emptyGrid ≡ gridLength
 unfolding zeros
 grid-long = length-replicate {A = ℕ} gridLength 0
 
-module _ (s : State) (g w : List ℕ) (b : ℕ) (few : length w ≤ 5) (long : length g ≡ gridLength) (due : isDue (s .part) (s .due) ≡ true) (marks : areMarks (s .marks) ≡ true) where
+module _ (s : State) (g w : List ℕ) (b : ℕ) (few : length w ≤ 5) (long : length g ≡ gridLength) (due : isDue (s .part) (s .due) ≡ true) (marks : areMarks (s .marks) ≡ true) (waiting : areWaiting s ≡ true) where
   abbrev Kept : Step → Type 0
   Kept o = Possible (o .state) × (length (o .grid) ≡ gridLength)
 
+  -- before the time's first digit is taken, none waits
+  early : s .place ≤ 8 → AllZero (s .digits)
+  early l = zero-elsewhere s waiting (not-yet s l)
+
   lost : (n : ℕ) → Kept (drops n s w)
-  lost n = (record { few = few; due = due-none; shape = between refl refl refl refl; marks = marks }, grid-long)
+  lost n = (record { few = few; due = due-none; shape = between refl refl refl refl; marks = marks; waiting = none-waits _ refl }, grid-long)
 
   opened-kept : Kept (opened s g w)
   unfolding opened
   opened-kept =
-      by-if Kept (eqb (s .place) 0) (λ _. (record { few = few; due = due; shape = atFD refl refl refl; marks = marks }, long))
-      (λ _. (record { few = few; due = due-none; shape = atFD refl refl refl; marks = marks }, grid-long))
+      by-if Kept (eqb (s .place) 0) (λ i. (record { few = few; due = due; shape = atFD refl refl refl; marks = marks; waiting = zero-waits _ (early (omega (arith, eqb-true (s .place) 0 i))) }, long))
+      (λ _. (record { few = few; due = due-none; shape = atFD refl refl refl; marks = marks; waiting = none-waits _ refl }, grid-long))
 
-  gap-kept : Kept (gapByte s g w b)
+  gap-kept : s .place ≡ 0 → Kept (gapByte s g w b)
   unfolding gapByte
-  gap-kept =
-      by-if Kept (eqb (s .part) 0) (λ _. (record { few = few; due = due-none; shape = between refl refl refl refl; marks = marks }, long))
-      (λ _. by-if Kept (eqb b (dueByte (s .seen))) (λ _. (record { few = few; due = due; shape = between refl refl refl refl; marks = marks }, long)) (λ _. lost 12))
+  gap-kept i =
+      by-if Kept (eqb (s .part) 0) (λ _. (record { few = few; due = due-none; shape = between refl refl refl refl; marks = marks; waiting = zero-waits _ (early (omega arith)) }, long))
+      (λ _. by-if Kept (eqb b (dueByte (s .seen))) (λ _. (record { few = few; due = due; shape = between refl refl refl refl; marks = marks; waiting = zero-waits _ (early (omega arith)) }, long)) (λ _. lost 12))
 
-  picture-kept : Kept (pictureByte s g w b)
+  picture-kept : s .place ≡ 1 → Kept (pictureByte s g w b)
   unfolding pictureByte
-  picture-kept =
+  picture-kept i =
       by-if Kept (not (isPictureCode b)) (λ _. lost 13)
       (λ q. by-if Kept (not (isMarked (s .marks) b)) (λ _. lost 51)
-      (λ _. (record { few = few; due = due; shape = atPicture refl refl (not-false (isPictureCode b) q); marks = marks }, long)))
+      (λ _. (record { few = few; due = due; shape = atPicture refl refl (not-false (isPictureCode b) q); marks = marks; waiting = zero-waits _ (early (omega arith)) }, long)))
 
   -- a text goes on: place, kind and part fit
-  kind-kept : isPictureCode (s .picture) ≡ true → Kept (kindByte s g w b)
+  kind-kept : s .place ≡ 2 → isPictureCode (s .picture) ≡ true → Kept (kindByte s g w b)
   unfolding kindByte fitsPart
-  kind-kept q =
+  kind-kept i q =
       by-if Kept (not (isKind b)) (λ _. lost 14)
       (λ k. let known = not-false (isKind b) k in
       let room : 3 ≤ blockLength b + 2 = omega (arith, block-least b known) in
       by-if Kept (isStartKind b)
-      (λ t. by-if Kept (eqb (s .part) 0) (λ _. (record { few = few; due = due-none; shape = inText (lit≤ tt) room q known t; marks = marks }, long))
-      (λ _. (record { few = few; due = due-none; shape = inText (lit≤ tt) room q known t; marks = marks }, grid-long)))
+      (λ t. by-if Kept (eqb (s .part) 0) (λ _. (record { few = few; due = due-none; shape = inText (lit≤ tt) room q known t; marks = marks; waiting = none-waits _ refl }, long))
+      (λ _. (record { few = few; due = due-none; shape = inText (lit≤ tt) room q known t; marks = marks; waiting = none-waits _ refl }, grid-long)))
       (λ _. by-if Kept (eqb (s .part) 0) (λ _. lost 16)
       (λ p. by-if Kept (not (eqb b (kindOf (s .part) (s .due)))) (λ _. lost 16)
       (λ d. by-if Kept (eqb (s .picture) (s .header .picture))
-      (λ _. (record { few = few; due = due; shape = inText (lit≤ tt) room q known (rw p (not-false _ d)); marks = marks }, long)) (λ _. lost 17)))))
+      (λ _. (record { few = few; due = due; shape = inText (lit≤ tt) room q known (rw p (not-false _ d)); marks = marks; waiting = zero-waits _ (early (omega arith)) }, long)) (λ _. lost 17)))))
 
   module _ (three : 3 ≤ s .place) (most : s .place ≤ blockLength (s .kind) + 2) (q : isPictureCode (s .picture) ≡ true) (k : isKind (s .kind) ≡ true) (fits : fitsPart s ≡ true) where
     block-kept : s .place < blockLength (s .kind) → Kept (blockByte s g w b)
     unfolding blockByte fitsPart enterGrid
     block-kept l =
-        by-if Kept (takesByte (s .kind) (s .header) (s .place) b)
-        (λ _. (
-          record { few = few; due = due; shape = inText (omega arith) (omega arith) q k fits; marks = marks },
+        by-if Kept (takesByte (s .kind) (s .header) (s .digits) (s .place) b)
+        (λ t. (
+          record { few = few; due = due; shape = inText (omega arith) (omega arith) q k fits; marks = marks; waiting = entered-waits s w b waiting t three },
           by-if (λ (t : List ℕ). length t ≡ gridLength) (isStartKind (s .kind) || isEndKind (s .kind)) (λ _. long) (λ _. length-set g _ b ∙ long),
         ))
         (λ _. lost 18)
 
     eor-kept : s .place ≡ blockLength (s .kind) → Kept (eorByte s g w b)
     unfolding eorByte fitsPart
-    eor-kept l = by-if Kept (eqb b EOR) (λ _. (record { few = few; due = due; shape = inText (omega arith) (omega arith) q k fits; marks = marks }, long)) (λ _. lost 19)
+    eor-kept l = by-if Kept (eqb b EOR) (λ _. (record { few = few; due = due; shape = inText (omega arith) (omega arith) q k fits; marks = marks; waiting = zero-waits _ (zero-elsewhere s waiting (closing s (omega arith))) }, long)) (λ _. lost 19)
 
     check-kept : s .place ≡ suc (blockLength (s .kind)) → Kept (checkedByte s g w b)
     unfolding checkedByte fitsPart
-    check-kept l = by-if Kept (eqb b (s .check)) (λ _. (record { few = few; due = due; shape = inText (omega arith) (omega arith) q k fits; marks = marks }, long)) (λ _. lost 20)
+    check-kept l = by-if Kept (eqb b (s .check)) (λ _. (record { few = few; due = due; shape = inText (omega arith) (omega arith) q k fits; marks = marks; waiting = zero-waits _ (zero-elsewhere s waiting (closing s (omega arith))) }, long)) (λ _. lost 20)
 
-    last-kept : Kept (lastByte s g w b)
+    last-kept : blockLength (s .kind) ≤ s .place → Kept (lastByte s g w b)
     unfolding lastByte fitsPart
-    last-kept =
+    last-kept far =
         by-if Kept (not (eqb b TPAD)) (λ _. lost 21)
         (λ _. by-if Kept (isStartKind (s .kind))
-        (λ t. (record { few = few; due = due-first (partOf (s .kind)) (s .header) (kind-part (s .kind) k); shape = between refl refl refl refl; marks = marks }, grid-long))
+        (λ t. (record { few = few; due = due-first (partOf (s .kind)) (s .header) (kind-part (s .kind) k); shape = between refl refl refl refl; marks = marks; waiting = zero-waits _ (zero-elsewhere s waiting (closing s far)) }, grid-long))
         (λ t. by-if Kept (isEndKind (s .kind))
-        (λ _. by-if Kept (modeIsHighest (s .header) (s .modes)) (λ _. (record { few = few; due = due-none; shape = between refl refl refl refl; marks = marks }, long)) (λ _. lost 22))
-        (λ _. (record { few = few; due = due-next (s .part) (textNumber (s .kind)) (open-part t); shape = between refl refl refl refl; marks = marks }, long))))
+        (λ _. by-if Kept (modeIsHighest (s .header) (s .modes)) (λ _. (record { few = few; due = due-none; shape = between refl refl refl refl; marks = marks; waiting = zero-waits _ (zero-elsewhere s waiting (closing s far)) }, long)) (λ _. lost 22))
+        (λ _. (record { few = few; due = due-next (s .part) (textNumber (s .kind)) (open-part t); shape = between refl refl refl refl; marks = marks; waiting = zero-waits _ (zero-elsewhere s waiting (closing s far)) }, long))))
       where
         open-part : isStartKind (s .kind) ≡ false → isPartNumber (s .part) ≡ true
         open-part t = by-test (eqb (s .part) 0) (λ e. never t (rw e at fits)) (λ e. open-facts (s .part) (s .due) due (eqb-false (s .part) 0 e) .0)
@@ -240,9 +246,9 @@ module _ (s : State) (g w : List ℕ) (b : ℕ) (few : length w ≤ 5) (long : l
   placed-kept : Shape s → Kept (placedByte s g w b)
   unfolding placedByte
   placed-kept sh =
-      by-if Kept (eqb (s .place) 0) (λ _. gap-kept)
-      (λ i. by-if Kept (eqb (s .place) 1) (λ _. picture-kept)
-      (λ j. by-if Kept (eqb (s .place) 2) (λ t. kind-kept (second sh (eqb-true _ _ t)))
+      by-if Kept (eqb (s .place) 0) (λ i. gap-kept (eqb-true _ _ i))
+      (λ i. by-if Kept (eqb (s .place) 1) (λ j. picture-kept (eqb-true _ _ j))
+      (λ j. by-if Kept (eqb (s .place) 2) (λ t. kind-kept (eqb-true _ _ t) (second sh (eqb-true _ _ t)))
       (λ t. later sh (omega (arith, eqb-false (s .place) 0 i, eqb-false (s .place) 1 j, eqb-false (s .place) 2 t)))))
     where
       second : Shape s → s .place ≡ 2 → isPictureCode (s .picture) ≡ true
@@ -263,15 +269,15 @@ module _ (s : State) (g w : List ℕ) (b : ℕ) (few : length w ≤ 5) (long : l
       later (atPicture i k q) l = absurd (omega arith)
       later (inText a m q k f) l =
           by-if Kept (ltb (s .place) (blockLength (s .kind))) (λ t. block-kept a m q k f (ltb-true _ _ t))
-          (λ _. by-if Kept (eqb (s .place) (blockLength (s .kind))) (λ t. eor-kept a m q k f (eqb-true _ _ t))
-          (λ _. by-if Kept (eqb (s .place) (suc (blockLength (s .kind)))) (λ t. check-kept a m q k f (eqb-true _ _ t)) (λ _. last-kept a m q k f)))
+          (λ u. by-if Kept (eqb (s .place) (blockLength (s .kind))) (λ t. eor-kept a m q k f (eqb-true _ _ t))
+          (λ _. by-if Kept (eqb (s .place) (suc (blockLength (s .kind)))) (λ t. check-kept a m q k f (eqb-true _ _ t)) (λ _. last-kept a m q k f (ltb-false _ _ u))))
 
 pub step-kept : (s : State) (g : List ℕ) (b : ℕ) → Possible s → length g ≡ gridLength → Possible (step s g b .state) × (length (step s g b .grid) ≡ gridLength)
 unfolding step
 step-kept s g b p long =
     by-if (λ (o : Step). Possible (o .state) × (length (o .grid) ≡ gridLength)) (endsOpening (s .seen) b)
-    (λ _. opened-kept s g (push (s .seen) b) b (push-few (s .seen) b) long (p .due) (p .marks))
-    (λ _. placed-kept s g (push (s .seen) b) b (push-few (s .seen) b) long (p .due) (p .marks) (p .shape))
+    (λ _. opened-kept s g (push (s .seen) b) b (push-few (s .seen) b) long (p .due) (p .marks) (p .waiting))
+    (λ _. placed-kept s g (push (s .seen) b) b (push-few (s .seen) b) long (p .due) (p .marks) (p .waiting) (p .shape))
 
 pub fresh-possible : (n : ℕ) → Possible (fresh n)
-fresh-possible n = record { few = lit≤ tt; due = due-none; shape = between refl refl refl refl; marks = from-marks n }
+fresh-possible n = record { few = lit≤ tt; due = due-none; shape = between refl refl refl refl; marks = from-marks n; waiting = none-waits (fresh n) refl }

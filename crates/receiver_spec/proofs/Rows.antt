@@ -66,7 +66,7 @@ module _ (s : State) (g w : List ℕ) (b : ℕ) where
 
   in-block : Among others (blockByte s g w b)
   unfolding blockByte isIn
-  in-block = by-if (Among others) (takesByte (s .kind) (s .header) (s .place) b) (λ _. refl) (λ _. refl)
+  in-block = by-if (Among others) (takesByte (s .kind) (s .header) (s .digits) (s .place) b) (λ _. refl) (λ _. refl)
 
   at-eor : Among others (eorByte s g w b)
   unfolding eorByte isIn

@@ -11,14 +11,16 @@ use Rattle.general_laws.specs.Bytes.{bit, isIn, every, allOf, same}
 use Rattle.text.specs.Text.{xorAll, checkByte, textOf}
 use Rattle.text.specs.Pictures.{pictureCodes, isPictureCode}
 use Rattle.text.specs.Kinds.{kinds, partOf, textNumber, kindOf, isKind, isStartKind, isEndKind, isDataKind, dataTexts, dataBlockLength, blockLength}
-use Rattle.text.specs.StartBlock.{noEchoOf, modeOf, hasMode, isClockByte, clockOf, isLeapYear, daysIn, isMoment, yearOf, isTime, isDigit, radarCodes, isRadarCode, follows}
+use Rattle.text_calendar_spec.specs.Calendar.{isLeapYear, daysIn, isMoment}
+use Rattle.text_calendar_spec.specs.TimeDigits.{yearOf, isTime}
+use Rattle.text.specs.StartBlock.{noEchoOf, modeOf, hasMode, isClockByte, clockOf, isDigit, radarCodes, isRadarCode, follows}
 use Rattle.text.specs.DataBlock.{oddLevel, evenLevel, isIntensityByte, isTopByte, isQualityByte, isPayloadByte}
 use Rattle.text.specs.EndBlock.{isModeByte, highest}
 use Rattle.text.specs.SampleBlocks.{sampleStart, sampleEnd}
 use Rattle.receiver_spec.specs.Seen.{endsOpening, dueByte}
 use Rattle.receiver_spec.specs.Marks.{markedAmong, markedPictures, isMarked, areMarks, allMarks, marksFrom}
 use Rattle.receiver_spec.specs.State.{fresh, emptyGrid}
-use Rattle.receiver_spec.specs.Contents.{timeTakes, startTakes, begunHeader, enterHeader, endTakes, enterModes, enterGrid, takesByte}
+use Rattle.receiver_spec.specs.Contents.{timeTakes, startTakes, begunHeader, enterHeader, enterDigits, endTakes, enterModes, enterGrid, takesByte}
 use Rattle.receiver_spec.specs.Receiver.{_⊕_, opened, gapByte, pictureByte, kindByte, blockByte, eorByte, checkedByte, firstDue, nextDue, modeIsHighest, lastByte, placedByte, step}
 use Rattle.receiver_spec.specs.Calls.{answersOf}
 
@@ -84,7 +86,7 @@ pub record Rows : Type 0 where
   pub kept-15 : listenWith 0x80 (S ++ (S ++ E)) ≡ 40 ∷ 1 ∷ 48 ∷ 15 ∷ 80 ∷ 1 ∷ 120 ∷ 3 ∷ []
 
 pub rows : Rows
-unfolding listenWith S E echoing quality otherPicture otherMode answersOf step opened placedByte gapByte pictureByte kindByte blockByte eorByte checkedByte firstDue nextDue modeIsHighest lastByte _⊕_ endsOpening dueByte timeTakes startTakes begunHeader enterHeader endTakes enterModes enterGrid takesByte bit isIn every allOf same xorAll checkByte textOf pictureCodes isPictureCode markedAmong markedPictures isMarked areMarks marksFrom kinds partOf textNumber kindOf isKind isStartKind isEndKind isDataKind dataTexts dataBlockLength blockLength noEchoOf modeOf hasMode isClockByte clockOf isLeapYear daysIn isMoment yearOf isTime isDigit radarCodes isRadarCode follows oddLevel evenLevel isIntensityByte isTopByte isQualityByte isPayloadByte isModeByte highest
+unfolding listenWith S E echoing quality otherPicture otherMode answersOf step opened placedByte gapByte pictureByte kindByte blockByte eorByte checkedByte firstDue nextDue modeIsHighest lastByte _⊕_ endsOpening dueByte timeTakes startTakes begunHeader enterHeader enterDigits endTakes enterModes enterGrid takesByte bit isIn every allOf same xorAll checkByte textOf pictureCodes isPictureCode markedAmong markedPictures isMarked areMarks marksFrom kinds partOf textNumber kindOf isKind isStartKind isEndKind isDataKind dataTexts dataBlockLength blockLength noEchoOf modeOf hasMode isClockByte clockOf isLeapYear daysIn isMoment yearOf isTime isDigit radarCodes isRadarCode follows oddLevel evenLevel isIntensityByte isTopByte isQualityByte isPayloadByte isModeByte highest
 rows =
     record {
       start-end = refl;

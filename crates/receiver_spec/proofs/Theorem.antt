@@ -23,7 +23,7 @@ use Rattle.text_laws.proofs.Blocks.{StartRules, start-rules, part-rules, split-
 use Rattle.receiver_spec.specs.Alterations.{AlteredTexts, blocksOf}
 use Rattle.receiver_spec.specs.Seen.{push}
 use Rattle.receiver_spec.specs.Marks.{isMarked, areMarks, allMarks, marksFrom}
-use Rattle.receiver_spec.specs.State.{State, fresh, dropped, emptyGrid}
+use Rattle.receiver_spec.specs.State.{State, fresh, dropped, noDigits, emptyGrid}
 use Rattle.receiver_spec.specs.Receiver.{Step, step}
 use Rattle.receiver_spec.specs.Calls.{Reply, quiet, partBegun, textTaken, partComplete, partDropped, refused, number, answered, CallOutcome, Request, byte, slice, Call, onGrid, elsewhere, ask, After, start, spread, add, next, after, received, singly, answersOf, stateAfter, gridAfter}
 use Rattle.receiver_spec.specs.Demand3.{IsAnswer, CallMade, Marked, Unmarked, partAnswers, partUnmarked, EndsUndamaged, WayBack, PartUnmarked, Demand3}
@@ -36,6 +36,7 @@ use Rattle.receiver_spec.proofs.Completing.{part-open}
 use Rattle.receiver_spec.proofs.History.{snoc-inj, complete-only, complete-if}
 use Rattle.receiver_spec.proofs.Altered.{idle-move, plain, altered-never}
 use Rattle.receiver_spec.proofs.ListsOfAlterations.{alterations-claim}
+use Rattle.receiver_spec.proofs.DigitRows.{waiting-so, minute-waits}
 use Rattle.receiver_spec.proofs.Instance.{Held, held, radar, machine, out, step-is-move, step-marks, radar-laws}
 use Rattle.text_laws.proofs.KindTable.{start-block-length}
 use Rattle.receiver_spec.proofs.BlockRules.{start-taken}
@@ -82,6 +83,7 @@ module _ (marks : ℕ) where
     check = e i .check;
     header = e i .held .header;
     modes = e i .held .modes;
+    digits = e i .held .digits;
     marks = k i;
   }
 
@@ -178,8 +180,8 @@ module _ (asked : ℕ) where
     long : length xs ≡ 29
     long = omega (arith, length-drop 3 b, rules .long)
 
-    contents : BlockContents R k (R .begin q (R .blank)) 3 xs (held (headerOf (block R q k xs)) noModes emptyGrid)
-    contents = start-taken marks q k (R .blank) (held (headerOf (block R q k xs)) noModes emptyGrid) xs (rules .picture) (rules .kind) long .1 (subst (λ y. isStartBlock y ≡ true) split (u .rules), refl)
+    contents : BlockContents R k (R .begin q (R .blank)) 3 xs (held (headerOf (block R q k xs)) noModes noDigits emptyGrid)
+    contents = start-taken marks q k (R .blank) (held (headerOf (block R q k xs)) noModes noDigits emptyGrid) xs (rules .picture) (rules .kind) long .1 (subst (λ y. isStartBlock y ≡ true) split (u .rules), refl)
 
     -- it is answered 1 at its last byte
     begins : (m : Machine R) → move R (run R m front) TPAD .answer ≡ 1
@@ -208,6 +210,20 @@ module _ (asked : ℕ) where
         step-same marks _ _ _ _ TPAD (marks-after (before ++ front) (fresh asked) emptyGrid) (marks-after front (fresh asked) emptyGrid)
         (ap (λ m. move R m TPAD) (machine-after marks (before ++ front) (fresh asked) emptyGrid refl ∙ run-append R (machine marks (fresh asked) emptyGrid) before front)
         ∙ same-move (run R (machine marks (fresh asked) emptyGrid) before) (machine marks (fresh asked) emptyGrid) ∙ ap (λ m. move R m TPAD) (sym (machine-after marks front (fresh asked) emptyGrid refl)))
+
+    -- and the header is then its block's
+    begun-header : (calls : List Call) (before : List ℕ) → received asked calls .taken ≡ before ++ t → received asked calls .state .header ≡ headerOf b
+    unfolding run front
+    begun-header calls before e =
+        let x = calls-stepped asked calls in
+        let m = machine marks (fresh asked) emptyGrid in
+        ap (λ (s : State). s .header) (x .state ∙ ap (stateAfter (fresh asked) emptyGrid) (e ∙ ap (λ y. before ++ y) text-is ∙ sym (append-assoc before front (TPAD ∷ []))))
+        ∙ ap (λ (n : Machine R). n .held .header)
+        (machine-after marks ((before ++ front) ++ (TPAD ∷ [])) (fresh asked) emptyGrid refl
+        ∙ run-append R m (before ++ front) (TPAD ∷ [])
+        ∙ ap (λ n. move R n TPAD .machine) (run-append R m before front)
+        ∙ ap (λ (o : Out R). o .machine) (start-run R (radar-laws marks) hm (rules .kind) (omega (arith, long, start-block-length k (rules .kind))) contents (run R m before)))
+        ∙ ap headerOf (sym split)
 
     found : (calls : List Call) (before rest : List ℕ) → received asked calls .taken ≡ before ++ (t ++ rest) → WayBack asked (received asked calls) before t rest
     found calls before rest e =
@@ -309,7 +325,7 @@ module _ (asked : ℕ) where
         e ∙ sym (append-assoc before part rest) ∙ ap (λ t. t ++ rest) split ∙ append-assoc (before ++ h) (TPAD ∷ []) rest in
         let here : machine marks (received asked calls .state) (received asked calls .grid) ≡ run R (move R (run R (new R) (before ++ h)) TPAD .machine) rest =
         ap₂ (λ s g. machine marks s g) (stepped .state) (stepped .grid) ∙ machine-after marks (received asked calls .taken) (fresh asked) emptyGrid refl ∙ ap (run R (new R)) bytes ∙ run-append R (new R) (before ++ h) (TPAD ∷ rest) in
-        let all : held (received asked calls .state .header) (received asked calls .state .modes) (received asked calls .grid) ≡ heldOf (u .part) =
+        let all : held (received asked calls .state .header) (received asked calls .state .modes) (received asked calls .state .digits) (received asked calls .grid) ≡ heldOf (u .part) =
         ap (λ (m : Machine R). m .held) (here ∙ ap (λ m. run R m rest) end) ∙ ap (λ (m : Machine R). m .held) (idle-rest rest seen (heldOf (u .part)) free) in
         (ap (λ (c : Held). c .header) all, ap (λ (c : Held). c .modes) all, ap (λ (c : Held). c .grid) all)
 
@@ -553,7 +569,10 @@ module _ (asked : ℕ) where
         begin = refl;
         each = λ earlier call later e. subst (CallMade (received asked earlier) call) (sym (after-last earlier call (start asked))) (made earlier call);
         marks = λ earlier later e. kept-marks earlier;
+        digits = λ earlier later e. waiting-so (received asked earlier .state) (calls-sound asked earlier .possible .waiting);
+        minute = λ earlier later e. minute-waits asked earlier;
         wayBack = λ earlier later e before text rest u hm f. found text u hm earlier before rest f;
+        begunHeader = λ earlier later e before text u hm f. begun-header text u hm earlier before f;
         complete = completed calls;
         held = λ earlier later e. holds earlier;
         partAnswered = λ earlier later e. part-answered earlier;

@@ -5,13 +5,17 @@ use Prim.Native.Nat.{ℕ, _+_, _-_, _≤_, _<_}
 use mathlib.Core.Bool.{true, false}
 use mathlib.Core.List.{List, [], _∷_, _++_}
 use lib.ListN.{length, take, drop}
+use lib.IntN.{pos}
 use Rattle.general_laws.specs.Bytes.{_!_, isIn}
 use Rattle.text.specs.Text.{FD, textOf}
+use Rattle.text.specs.Kinds.{isStartKind}
+use Rattle.text.specs.StartBlock.{headerOf}
 use Rattle.text.specs.Part.{Part, startPart, StartText, UndamagedPart, AlteredTo, zeros, partHeader, partModes, gridOf}
 use Rattle.receiver_spec.specs.Alterations.{AlteredTexts, blocksOf}
 use Rattle.receiver_spec.specs.Marks.{isMarked, marksFrom}
 use Rattle.receiver_spec.specs.State.{State, dropped, emptyGrid}
 use Rattle.receiver_spec.specs.Receiver.{step}
+use Rattle.receiver_spec.specs.WaitingDigits.{Elsewhere}
 use Rattle.receiver_spec.specs.Calls.{Reply, quiet, partBegun, textTaken, partComplete, partDropped, refused, number, answered, CallOutcome, Request, byte, slice, Call, onGrid, elsewhere, ask, spread, After, received, singly, answersOf, stateAfter, gridAfter}
 
 -- The reply of a call that is not refused, by its case: 01's answers 0 to 3, and the rows 11 to 22 and 51
@@ -111,10 +115,15 @@ allZero marks =
       part = 0;
       due = 0;
       check = 0;
-      header = record { time = zeros 12; radars = zeros 8; clock = 0; picture = 0; mode = 0; noecho = false };
+      header = record { minute = pos 0; radars = zeros 8; clock = 0; picture = 0; mode = 0; noecho = false };
       modes = zeros 8;
+      digits = zeros 12;
       marks = marks;
     }
+
+-- Request 111: until byte 23 of a start text is taken, which leads to place 24, its header's minute is 0
+abbrev pub MinuteWaits : State → Type 0
+MinuteWaits s = isStartKind (s .kind) ≡ true → s .place ≤ 23 → s .header .minute ≡ pos 0
 
 -- What a receiver without the mark makes of an undamaged part that calls took, whatever they took before and behind it:
 -- no byte of it is answered complete; from its first picture code on its answers are as above; and as long as no `FD` is
@@ -134,9 +143,17 @@ pub record Demand3 (n : ℕ) (calls : List Call) : Type 0 where
       → CallMade (received n earlier) call (received n (earlier ++ (call ∷ [])))
   -- Nothing ever changes the marks
   pub marks : (earlier later : List Call) → calls ≡ earlier ++ later → received n earlier .state .marks ≡ marksFrom n
+  -- The digits of the time wait at places 9 to 23 of a start text, each 9 at most, and are 0 elsewhere; until byte 23 is taken the
+  -- header's minute is 0. Request 111
+  pub digits : (earlier later : List Call) → calls ≡ earlier ++ later
+      → ((i : ℕ) → received n earlier .state .digits ! i ≤ 9) × (Elsewhere (received n earlier .state) → (i : ℕ) → received n earlier .state .digits ! i ≡ 0)
+  pub minute : (earlier later : List Call) → calls ≡ earlier ++ later → MinuteWaits (received n earlier .state)
   -- A start text of a marked picture is enough to find the way back: compared after each call
   pub wayBack : (earlier later : List Call) → calls ≡ earlier ++ later → (before text rest : List ℕ) (u : StartText text) → Marked n (u .block)
       → received n earlier .taken ≡ before ++ (text ++ rest) → WayBack n (received n earlier) before text rest
+  -- Right behind such a text the header is what its block gives, the minute of its time among it (Request 111)
+  pub begunHeader : (earlier later : List Call) → calls ≡ earlier ++ later → (before text : List ℕ) (u : StartText text) → Marked n (u .block)
+      → received n earlier .taken ≡ before ++ text → received n earlier .state .header ≡ headerOf (u .block)
   -- A byte is answered 3, complete, exactly when the bytes up to it end with an undamaged part of a marked picture
   pub complete : (before : List ℕ) (b : ℕ) (rest : List ℕ) → received n calls .taken ≡ before ++ (b ∷ rest)
       → (received n calls .said ! length before ≡ 3) ↔ EndsUndamaged n (before ++ (b ∷ []))

@@ -5,5 +5,6 @@ pub mod State
 pub mod Contents
 pub mod Receiver
 pub mod Calls
+pub mod WaitingDigits
 pub mod Alterations
 pub mod Demand3

@@ -11,8 +11,8 @@ use Rattle.text.specs.EndBlock.{highest, noModes}
 use Rattle.text.specs.declared.header.Header.{Header}
 use Rattle.receiver_spec.specs.Seen.{push, endsOpening, dueByte}
 use Rattle.receiver_spec.specs.Marks.{isMarked}
-use Rattle.receiver_spec.specs.State.{State, dropped, emptyGrid}
-use Rattle.receiver_spec.specs.Contents.{takesByte, begunHeader, enterHeader, enterModes, enterGrid}
+use Rattle.receiver_spec.specs.State.{State, noDigits, dropped, emptyGrid}
+use Rattle.receiver_spec.specs.Contents.{takesByte, begunHeader, enterHeader, enterDigits, enterModes, enterGrid}
 
 -- the exclusive or of two bytes
 infixl 60 _⊕_
@@ -46,11 +46,11 @@ drops n s seen = answers n (dropped (s .marks) seen) emptyGrid
 -- a state within a text, and between texts: place, kind, picture code, check byte; header and modes
 abbrev pub within : State → List ℕ → ℕ → ℕ → ℕ → ℕ → State
 within s seen place kind picture check =
-    record { seen = seen; place = place; kind = kind; picture = picture; part = s .part; due = s .due; check = check; header = s .header; modes = s .modes; marks = s .marks }
+    record { seen = seen; place = place; kind = kind; picture = picture; part = s .part; due = s .due; check = check; header = s .header; modes = s .modes; digits = s .digits; marks = s .marks }
 
 abbrev pub between : State → List ℕ → ℕ → ℕ → Header → List ℕ → State
 between s seen part due header modes =
-    record { seen = seen; place = 0; kind = 0; picture = 0; part = part; due = due; check = 0; header = header; modes = modes; marks = s .marks }
+    record { seen = seen; place = 0; kind = 0; picture = 0; part = part; due = due; check = 0; header = header; modes = modes; digits = s .digits; marks = s .marks }
 
 -- An opening starts a text at place 1; an open part's header stays. Row 11: while a text is under way, drop, and the
 -- new text goes on.
@@ -74,7 +74,7 @@ pictureByte s g seen b =
     (cond (not (isMarked (s .marks) b)) (drops 51 s seen)
     (answers 0 (within s seen 2 0 b (s .check ⊕ b)) g))
 
--- a start kind is taken: no part is open, header and modes are 0, and the picture code enters.
+-- a start kind is taken: no part is open, header and modes are 0, no digit waits, and the picture code enters.
 -- Notice 49, 4(1)(1-1)(c)(イ)
 abbrev pub starting : State → List ℕ → ℕ → State
 starting s seen b =
@@ -88,6 +88,7 @@ starting s seen b =
       check = s .check ⊕ b;
       header = begunHeader (s .picture);
       modes = noModes;
+      digits = noDigits;
       marks = s .marks;
     }
 
@@ -103,7 +104,7 @@ kindByte s g seen b =
     (cond (eqb (s .picture) (s .header .picture)) (answers 0 (within s seen 3 b (s .picture) (s .check ⊕ b)) g)
     (drops 17 s seen)))))
 
--- where a block byte enters: header and modes with it. Notice 49, 4(1)(1-1)(c)(イ) and (ウ), (d)(イ)
+-- where a block byte enters: header, modes and the digits that wait (Request 111) with it. Notice 49, 4(1)(1-1)(c)(イ) and (ウ), (d)(イ)
 abbrev pub entered : State → List ℕ → ℕ → State
 entered s seen b =
     record {
@@ -114,8 +115,9 @@ entered s seen b =
       part = s .part;
       due = s .due;
       check = s .check ⊕ b;
-      header = cond (isStartKind (s .kind)) (enterHeader (s .header) (s .place) b) (s .header);
+      header = cond (isStartKind (s .kind)) (enterHeader (s .header) (s .digits) (s .place) b) (s .header);
       modes = cond (isEndKind (s .kind)) (enterModes (s .modes) (s .place) b) (s .modes);
+      digits = cond (isStartKind (s .kind)) (enterDigits (s .digits) (s .place) b) (s .digits);
       marks = s .marks;
     }
 
@@ -128,7 +130,7 @@ enteredGrid s g b =
 -- Notice 49, 4(1)(1-1)(c)(イ) to (エ), (d)(イ) and (ウ), 4(1)(1-2)(c)(エ) and (d)(ウ), 4(2)(c)(エ) and (d)(ウ)
 unfoldable pub blockByte : State → List ℕ → List ℕ → ℕ → Step
 blockByte s g seen b =
-    cond (takesByte (s .kind) (s .header) (s .place) b) (answers 0 (entered s seen b) (enteredGrid s g b)) (drops 18 s seen)
+    cond (takesByte (s .kind) (s .header) (s .digits) (s .place) b) (answers 0 (entered s seen b) (enteredGrid s g b)) (drops 18 s seen)
 
 -- Row 19: not `FE`. Notice 49, 4(1)(1-1)(c)(ア)
 unfoldable pub eorByte : State → List ℕ → List ℕ → ℕ → Step

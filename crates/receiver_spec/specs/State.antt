@@ -4,7 +4,7 @@ use mathlib.Core.Bool.{Bool, cond, _&&_, not}
 use mathlib.Core.List.{List, [], _∷_}
 use lib.Dec.{eqb, leb}
 use lib.ListN.{length}
-use Rattle.general_laws.specs.Bytes.{allOf}
+use Rattle.general_laws.specs.Bytes.{every, allOf}
 use Rattle.text.specs.Pictures.{isPictureCode}
 use Rattle.text.specs.Kinds.{isKind, isStartKind, kindOf, blockLength}
 use Rattle.text.specs.StartBlock.{blankHeader}
@@ -30,8 +30,14 @@ pub record State : Type 0 where
   pub check : ℕ
   pub header : Header
   pub modes : List ℕ
+  -- the twelve digits of the time, which wait here until byte 23 of a start text (Request 111)
+  pub digits : List ℕ
   -- the pictures that the receiver takes; nothing ever changes them (Request 101)
   pub marks : ℕ
+
+-- no digit waits: twelve 0. Request 111
+abbrev pub noDigits : List ℕ
+noDigits = 0 ∷ 0 ∷ 0 ∷ 0 ∷ 0 ∷ 0 ∷ 0 ∷ 0 ∷ 0 ∷ 0 ∷ 0 ∷ 0 ∷ []
 
 -- the grid, all 0
 abbrev pub emptyGrid : List ℕ
@@ -50,6 +56,7 @@ dropped marks seen =
       check = 0;
       header = blankHeader;
       modes = noModes;
+      digits = noDigits;
       marks = marks;
     }
 
@@ -88,7 +95,15 @@ kindRead s =
     ∷ fitsPart s
     ∷ [])
 
--- a possible state (01, row 2, and Request 101: no marks beyond the twentieth).
+-- places 9 to 23 of a start text: the time's first digit is taken, and its last is not. Request 111
+unfoldable pub awaitsTime : State → Bool
+awaitsTime s = isStartKind (s .kind) && leb 9 (s .place) && leb (s .place) 23
+
+-- there each digit is 9 at most, also one that is still to come; elsewhere each is 0. Request 111
+unfoldable pub areWaiting : State → Bool
+areWaiting s = cond (awaitsTime s) (every (λ d. leb d 9) (s .digits)) (every (λ d. eqb d 0) (s .digits))
+
+-- a possible state (01, row 2, and Requests 101 and 111: no marks beyond the twentieth; the digits that wait).
 -- Notice 49, 4(1)(1-1)(a), (b), (d)(イ) and (ウ), 4(1)(1-2)(a), (b), (d)(イ) and (ウ),
 -- 4(2)(a), (b), (d)(イ) and (ウ), 5(1)
 unfoldable pub isPossible : State → Bool
@@ -98,4 +113,5 @@ isPossible s =
     ∷ isDue (s .part) (s .due)
     ∷ cond (eqb (s .kind) 0) (kindUnread s) (kindRead s)
     ∷ areMarks (s .marks)
+    ∷ areWaiting s
     ∷ [])

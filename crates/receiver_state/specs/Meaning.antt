@@ -24,6 +24,7 @@ stateOf s =
       check = s .frame .check;
       header = s .header;
       modes = s .modes;
+      digits = s .digits;
       marks = s .marks;
     }
 

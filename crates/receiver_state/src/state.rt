@@ -19,13 +19,15 @@ pub struct Frame {
     pub count: u8,
 }
 
-// 01's state. The last bytes seen are the low bytes of one number, the newest lowest. The marks are
-// one number too, with `C0` at bit 0 (Request 101).
+// 01's state. The last bytes seen are the low bytes of one number, the newest lowest. The digits of the
+// time wait here until byte 23 of a start text (Request 111). The marks are one number too, with `C0`
+// at bit 0 (Request 101).
 pub struct State {
     pub seen: u64,
     pub frame: Frame,
     pub header: Header,
     pub modes: [u8; 8],
+    pub digits: [u8; 12],
     pub marks: u32,
 }
 
@@ -47,7 +49,7 @@ pub fn fresh(marks: u32) -> State
             count: 0,
         },
         header: Header {
-            time: [0; 12],
+            minute: 0,
             radars: [0; 8],
             clock: 0,
             picture: 0,
@@ -55,6 +57,7 @@ pub fn fresh(marks: u32) -> State
             noecho: false,
         },
         modes: [0; 8],
+        digits: [0; 12],
         marks: marks_from(marks),
     }
 }

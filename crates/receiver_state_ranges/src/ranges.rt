@@ -1,4 +1,5 @@
 // The ranges that refusal 2 names.
+use crate::digits::digits_fit;
 use receiver_marks::marks::are_marks;
 use receiver_state::state::Frame;
 use receiver_state::state::State;
@@ -49,12 +50,15 @@ fn frame_fits(f: Frame) -> bool
     placed & coded & (f.kind == kind_of(f.part, f.due))
 }
 
-// Whether a state is possible (01, row 2, and Request 101: no marks beyond the twentieth).
+// Whether a state is possible (01, row 2, and Requests 101 and 111: no marks beyond the twentieth; the
+// digits that wait).
 // Notice 49, 4(1)(1-1)(a), (b), (d)(イ) and (ウ), 4(1)(1-2)(a), (b), (d)(イ) and (ウ),
 // 4(2)(a), (b), (d)(イ) and (ウ), 5(1)
 pub fn is_possible(s: State) -> bool
     ensures { λ r. ⌜ r ≡ isPossible (stateOf s) ⌝ }
 {
     let f = s.frame;
-    (f.count <= 5) & is_due(f.part, f.due) & frame_fits(f) & are_marks(s.marks)
+    let digits = s.digits;
+    let framed = (f.count <= 5) & is_due(f.part, f.due) & frame_fits(f);
+    framed & are_marks(s.marks) & digits_fit(f, digits)
 }

@@ -73,7 +73,7 @@ unfoldable pub pushedState : State → ℕ → State
 pushedState s b =
     state (pushSeen (s .seen) b)
     (frame (s .frame .place) (s .frame .kind) (s .frame .picture) (s .frame .part) (s .frame .due) (s .frame .check) (pushCount (s .frame .count)))
-    (s .header) (s .modes) (s .marks)
+    (s .header) (s .modes) (s .digits) (s .marks)
 
 -- one byte: an opening is looked for before every other check. Notice 49, 4(1)(1-1)(c)(ア)
 unfoldable pub decide : State → ℕ → Decision

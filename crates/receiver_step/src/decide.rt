@@ -21,6 +21,7 @@ fn pushed_state(s: State, b: u8) -> State
     let f = s.frame;
     let header = s.header;
     let modes = s.modes;
+    let digits = s.digits;
     State {
         seen: pushed(s.seen, b),
         frame: Frame {
@@ -34,6 +35,7 @@ fn pushed_state(s: State, b: u8) -> State
         },
         header,
         modes,
+        digits,
         marks: s.marks,
     }
 }

@@ -29,6 +29,7 @@ use Rattle.receiver_bytes_seen.specs.Behind.{seenAfter}
 use Rattle.receiver_bytes_seen.proofs.Laws.{count-five}
 use Rattle.general_laws.proofs.Lists.{from-on, Bytes, bytes-front}
 use Rattle.receiver_state.specs.Meaning.{stateOf}
+use Rattle.receiver_spec.specs.State.{noDigits}
 use Rattle.receiver_state.specs.declared.state.State.{State}
 use Rattle.receiver_decisions.specs.Decisions.{frame, state}
 use Rattle.receiver_stretches.specs.Run.{passed, run}
@@ -88,14 +89,14 @@ module _ (s : State) (bytes : List ℕ) (opened : endsOpening (seenOf (s .seen) 
   size = omega (arith, long, length-drop 3 here)
 
   pub start-whole : isIdle (s .frame) ≡ true → isStartBlock here ≡ true → (g : List ℕ)
-      → run s g (take 34 bytes) 0 ≡ passed (state seen (frame 34 k q 0 0 (checkByte here) 5) (headerOf here) noModes (s .marks)) g 34
+      → run s g (take 34 bytes) 0 ≡ passed (state seen (frame 34 k q 0 0 (checkByte here) 5) (headerOf here) noModes noDigits (s .marks)) g 34
   start-whole idle ok g =
       let r = start-rules here ok in
       let (place, part, kind, picture, due, check) = idle-has s idle in
-      let before = held (s .header) (s .modes) g in
-      let after = held (headerOf here) noModes g in
+      let before = held (s .header) (s .modes) (s .digits) g in
+      let after = held (headerOf here) noModes noDigits g in
       let whole : here ≡ block R q k xs = split-3 here (omega (arith, long)) (r .first) in
-      let contents = start-taken (s .marks) q k before after xs (r .picture) (r .kind) size .1 (subst (λ b. isStartBlock b ≡ true) whole ok, ap (λ b. held (headerOf b) noModes g) whole) in
+      let contents = start-taken (s .marks) q k before after xs (r .picture) (r .kind) size .1 (subst (λ b. isStartBlock b ≡ true) whole ok, ap (λ b. held (headerOf b) noModes noDigits g) whole) in
       let quiet = start-quiet R (radar-laws (s .marks)) marked-here (r .kind) (omega (arith, size, start-block-length k (r .kind))) contents in
       subst₂ (λ i b. run s g (take 34 bytes) 0 ≡ passed (stateOfMachine (s .marks) (s .marks) seen 5 (mk R [] i k q 0 0 (checkByte b) after)) g 34)
       (ap (λ n. suc (suc n)) (start-block-length k (r .kind))) (sym whole)
@@ -106,16 +107,16 @@ module _ (s : State) (bytes : List ℕ) (opened : endsOpening (seenOf (s .seen) 
 
   pub end-whole : length (s .modes) ≡ 8 → isGap (s .frame) ≡ true → q ≡ s .header .picture → k ≡ kindOf (s .frame .part) (s .frame .due)
       → isEndBlock (s .header .radars) here ≡ true → (g : List ℕ)
-      → run s g (take 34 bytes) 0 ≡ passed (state seen (frame 34 k q (s .frame .part) (s .frame .due) (checkByte here) 5) (s .header) (modesOf here) (s .marks)) g 34
+      → run s g (take 34 bytes) 0 ≡ passed (state seen (frame 34 k q (s .frame .part) (s .frame .due) (checkByte here) 5) (s .header) (modesOf here) (s .digits) (s .marks)) g 34
   end-whole eight gap hq hk ok g =
       let r = end-rules (s .header .radars) here ok in
       let (place, part, kind, picture, check) = gap-has s gap in
       let p = s .frame .part in
       let d = s .frame .due in
-      let before = held (s .header) (s .modes) g in
-      let after = held (s .header) (modesOf here) g in
+      let before = held (s .header) (s .modes) (s .digits) g in
+      let after = held (s .header) (modesOf here) (s .digits) g in
       let whole : here ≡ block R q k xs = split-3 here (omega (arith, long)) (r .first) in
-      let contents = end-taken (s .marks) q k (s .header) (s .modes) g after xs (r .picture) (r .kind) eight size .1 (subst (λ b. isEndBlock (s .header .radars) b ≡ true) whole ok, ap (λ b. held (s .header) (modesOf b) g) whole) in
+      let contents = end-taken (s .marks) q k (s .header) (s .modes) (s .digits) g after xs (r .picture) (r .kind) eight size .1 (subst (λ b. isEndBlock (s .header .radars) b ≡ true) whole ok, ap (λ b. held (s .header) (modesOf b) (s .digits) g) whole) in
       let quiet = due-quiet R (radar-laws (s .marks)) {c = before} p d part (subst (λ x. isMarked (s .marks) x ≡ true) hq marked-here) hk (end-is-kind k (r .kind)) (end-not-start k (r .kind)) (omega (arith, size, end-block-length k (r .kind))) contents in
       let framed : here ≡ block R (s .header .picture) k xs = whole ∙ ap (λ x. block R x k xs) hq in
       subst (λ i. run s g (take 34 bytes) 0 ≡ passed (stateOfMachine (s .marks) (s .marks) seen 5 (mk R [] i k q p d (checkByte here) after)) g 34) (ap (λ n. suc (suc n)) (end-block-length k (r .kind)))
@@ -181,7 +182,7 @@ module _ (s : State) (bytes : List ℕ) {check : ℕ} {read : StartRead} (c : ch
 
   pub start-on : {seen : ℕ} → Failed bytes check (read .kept) ≡ false → isIdle (s .frame) ≡ true → endsOpening (seenOf (s .seen) (s .frame .count)) FD ≡ true
       → 34 ≤ length bytes → Bytes bytes → isMarked (s .marks) (bytes ! 1) ≡ true → seen ≡ seenAfter (s .seen) (take 34 bytes) → (g : List ℕ)
-      → passed (state seen (frame 34 (blockAhead bytes ! 2) (blockAhead bytes ! 1) 0 0 check 5) (read .header) noModes (s .marks)) g 34 ≡ run s g (take (startAhead bytes) bytes) 0
+      → passed (state seen (frame 34 (blockAhead bytes ! 2) (blockAhead bytes ! 1) 0 0 check 5) (read .header) noModes noDigits (s .marks)) g 34 ≡ run s g (take (startAhead bytes) bytes) 0
   unfolding startAhead
   start-on {seen} f idle opened inside small marked v g =
       let all : (isFramed bytes && isStartBlock (blockAhead bytes)) ≡ true = not-false _ (sym (failed-is bytes c kept-is) ∙ f) in
@@ -221,7 +222,7 @@ module _ (s : State) (bytes : List ℕ) {gap : Bool} {kind : ℕ} (g : gap ≡ i
 
     pub end-on : {seen : ℕ} → Failed bytes check (read .kept) ≡ false → length (s .modes) ≡ 8 → endsOpening (seenOf (s .seen) (s .frame .count)) FD ≡ true
         → 34 ≤ length bytes → Bytes bytes → isMarked (s .marks) (bytes ! 1) ≡ true → seen ≡ seenAfter (s .seen) (take 34 bytes) → (h : List ℕ)
-        → passed (state seen (frame 34 (blockAhead bytes ! 2) (blockAhead bytes ! 1) (s .frame .part) (s .frame .due) check 5) (s .header) (read .modes) (s .marks)) h 34
+        → passed (state seen (frame 34 (blockAhead bytes ! 2) (blockAhead bytes ! 1) (s .frame .part) (s .frame .due) check 5) (s .header) (read .modes) (s .digits) (s .marks)) h 34
         ≡ run s h (take (endAhead s bytes) bytes) 0
     unfolding endAhead
     end-on {seen} f eight opened inside small marked v h =

@@ -20,6 +20,7 @@ ghost use Rattle.text.specs.Text.{FD};
 ghost use Rattle.receiver_spec.specs.Marks.{isMarked};
 ghost use Rattle.receiver_spec.specs.Seen.{endsOpening};
 ghost use Rattle.receiver_bytes_seen.specs.AsNumber.{seenOf};
+ghost use Rattle.receiver_decisions.specs.Decisions.{state};
 ghost use Rattle.receiver_stretches.specs.Run.{Passes};
 ghost use Rattle.receiver_stretch_start_end.specs.Ahead.{isIdle, startAhead, endAhead, textAhead};
 
@@ -55,9 +56,26 @@ fn start_ahead(s: State, bytes: &[u8]) -> StretchResult
         frame,
         header,
         modes: [0; 8],
+        digits: [0; 12],
         marks: s.marks,
     };
     StretchResult { state, at: 34 }
+}
+
+// The state with these bytes seen, this frame and these modes; all else stays
+fn with_modes(s: State, seen: u64, frame: Frame, modes: [u8; 8]) -> State
+    ensures { λ r. ⌜ r ≡ state seen frame (s .header) modes (s .digits) (s .marks) ⌝ }
+{
+    let header = s.header;
+    let digits = s.digits;
+    State {
+        seen,
+        frame,
+        header,
+        modes,
+        digits,
+        marks: s.marks,
+    }
 }
 
 // Past the due end text, of a picture that was found marked (Request 101), if it stands here whole
@@ -94,13 +112,7 @@ fn end_ahead(s: State, bytes: &[u8]) -> StretchResult
         count: 5,
     };
     let seen = seen_behind(s.seen, &bytes[..34]);
-    let state = State {
-        seen,
-        frame,
-        header,
-        modes,
-        marks: s.marks,
-    };
+    let state = with_modes(s, seen, frame, modes);
     StretchResult { state, at: 34 }
 }
 

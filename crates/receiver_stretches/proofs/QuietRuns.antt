@@ -28,6 +28,7 @@ module _ (marks : ℕ) where
         frame = frame (m .place) (m .kind) (m .picture) (m .part) (m .due) (m .check) count;
         header = m .held .header;
         modes = m .held .modes;
+        digits = m .held .digits;
         marks = keeps;
       }
 

@@ -23,6 +23,15 @@ pub use text::header::Header;
 pub use text::header::WriterHeader;
 pub use text_headers::writer_input::writer_header_of;
 
+// A header's time (Request 111): the minute, a count from 1 January 2000, 00:00, from its twelve digits
+// and back, as a date and time, and whether it is one of the years 0000 to 9999
+pub use text_calendar::minutes::is_minute;
+pub use text_calendar::minutes::moment_of;
+pub use text_calendar::time::digits_of;
+pub use text_calendar::time::time_check;
+pub use text_calendar_spec::time::Moment;
+pub use text_calendar_spec::time::TimeCheck;
+
 // The writer (01, "The writer"), how many payload bytes it takes and how long a part is, by part
 pub use text_lengths::part::part_length;
 pub use text_lengths::part::payload_length;

@@ -4,10 +4,12 @@ use mathlib.Core.Bool.{Bool, true, false, cond, _&&_, _||_, not}
 use mathlib.Core.List.{List, [], _∷_, map}
 use lib.Dec.{eqb, leb, ltb}
 use lib.ListN.{length, take, drop}
+use lib.IntN.{pos}
 use Rattle.general_laws.specs.Bytes.{_!_, bit, isIn, every, allOf}
 use Rattle.text.specs.Text.{FD}
 use Rattle.text.specs.Pictures.{isPictureCode}
 use Rattle.text.specs.Kinds.{isStartKind}
+use Rattle.text_calendar_spec.specs.TimeDigits.{isTime, minuteIn}
 use Rattle.text.specs.declared.header.Header.{Header}
 
 -- Status 1, byte 4: bit 3 is NO ECHO, and no other bit has a meaning. Notice 49, 4(1)(1-1)(d)(イ)
@@ -49,34 +51,6 @@ clockOf high low = high * 128 + low
 -- The two bytes of a clock. Notice 49, 4(1)(1-1)(d)(イ)
 unfoldable pub clockBytes : ℕ → List ℕ
 clockBytes clock = clock / 128 ∷ clock % 128 ∷ []
-
--- The Gregorian calendar, for the time. Notice 49, 4(1)(1-1)(d)(イ)
-unfoldable pub isLeapYear : ℕ → Bool
-isLeapYear y = eqb (y % 4) 0 && not (eqb (y % 100) 0) || eqb (y % 400) 0
-
--- the days of a month; 31 where the number is no month. Notice 49, 4(1)(1-1)(d)(イ)
-unfoldable pub daysIn : ℕ → ℕ → ℕ
-daysIn y m = cond (eqb m 2) (cond (isLeapYear y) 29 28) (cond (isIn m (4 ∷ 6 ∷ 9 ∷ 11 ∷ [])) 30 31)
-
--- year, month, day, hour, minute: a date of years 0000 to 9999, hour 00 to 23, minute 00 to 59. Notice 49,
--- 4(1)(1-1)(d)(イ)
-unfoldable pub isMoment : ℕ → ℕ → ℕ → ℕ → ℕ → Bool
-isMoment y m d h n =
-    allOf (leb y 9999 ∷ leb 1 m ∷ leb m 12 ∷ leb 1 d ∷ leb d (daysIn y m) ∷ leb h 23 ∷ leb n 59 ∷ [])
-
--- The year of the twelve digits YYYYMMDDhhmm. Notice 49, 4(1)(1-1)(d)(イ)
-unfoldable pub yearOf : List ℕ → ℕ
-yearOf ds = ds ! 0 * 1000 + ds ! 1 * 100 + ds ! 2 * 10 + ds ! 3
-
--- The number that two digits give. Notice 49, 4(1)(1-1)(d)(イ)
-abbrev pub twoDigits : ℕ → ℕ → ℕ
-twoDigits tens ones = tens * 10 + ones
-
--- Twelve digits, YYYYMMDDhhmm, each 0 to 9, that give a date and time. Notice 49, 4(1)(1-1)(d)(イ)
-unfoldable pub isTime : List ℕ → Bool
-isTime ds =
-    every (λ d. leb d 9) ds
-    && isMoment (yearOf ds) (twoDigits (ds ! 4) (ds ! 5)) (twoDigits (ds ! 6) (ds ! 7)) (twoDigits (ds ! 8) (ds ! 9)) (twoDigits (ds ! 10) (ds ! 11))
 
 -- The time in ASCII, `YYYY.MM.DD.hh.mm`: where its digits stand. Notice 49, 4(1)(1-1)(c)(イ) and (d)(イ)
 abbrev pub digitPlaces : List ℕ
@@ -150,11 +124,12 @@ isStartBlock block =
     ∷ isRadarList (radarsOf block)
     ∷ [])
 
--- 01: a part's header is what its start block gives. Notice 49, 4(1)(1-1)(c)(イ) and (d)(イ)
+-- 01: a part's header is what its start block gives; its time is the minute (Request 111). Notice 49, 4(1)(1-1)(c)(イ)
+-- and (d)(イ)
 unfoldable pub headerOf : List ℕ → Header
 headerOf block =
     record {
-      time = digitsOf (timeTextOf block);
+      minute = minuteIn (digitsOf (timeTextOf block));
       radars = radarsOf block;
       clock = clockOf (block ! 6) (block ! 7);
       picture = block ! 1;
@@ -166,7 +141,7 @@ headerOf block =
 abbrev pub blankHeader : Header
 blankHeader =
     record {
-      time = 0 ∷ 0 ∷ 0 ∷ 0 ∷ 0 ∷ 0 ∷ 0 ∷ 0 ∷ 0 ∷ 0 ∷ 0 ∷ 0 ∷ [];
+      minute = pos 0;
       radars = 0 ∷ 0 ∷ 0 ∷ 0 ∷ 0 ∷ 0 ∷ 0 ∷ 0 ∷ [];
       clock = 0;
       picture = 0;

@@ -1,6 +1,6 @@
 // Days, dates and times of day.
 ghost use mathlib.Core.Path.{_≡_};
-ghost use Rattle.text.specs.StartBlock.{isLeapYear, daysIn, isMoment};
+ghost use Rattle.text_calendar_spec.specs.Calendar.{isLeapYear, daysIn, isMoment};
 
 // Whether a year of the Gregorian calendar has a 29 February. Notice 49, 4(1)(1-1)(d)(イ)
 pub fn is_leap_year(year: u32) -> bool

@@ -1,7 +1,7 @@
 // The rule of a header and modes that a writer takes (01, row 32).
 use text::header::Header;
 use text::header::WriterHeader;
-use text_calendar::time::is_time;
+use text_calendar::minutes::is_minute;
 use text_codes::table::is_picture_code;
 use text_radars::places::are_modes_for;
 use text_radars::places::is_radar_list;
@@ -12,24 +12,23 @@ ghost use Rattle.text.specs.WriterInput.{writerHeaderOf, isWriterHeader, isWrit
 pub fn writer_header_of(header: Header) -> WriterHeader
     ensures { λ r. ⌜ r ≡ writerHeaderOf header ⌝ }
 {
-    let time = header.time;
     let radars = header.radars;
     WriterHeader {
-        time,
+        minute: header.minute,
         radars,
         clock: header.clock,
         picture: header.picture,
     }
 }
 
-// Whether a header keeps every rule of a start block (01, row 32). Notice 49, 4(1)(1-1)(c)(イ) and (d)(イ)
+// Whether a header keeps every rule of a start block (01, row 32); its minute is one of the years 0000
+// to 9999 (Request 111). Notice 49, 4(1)(1-1)(c)(イ) and (d)(イ)
 pub fn is_writer_header(header: WriterHeader) -> bool
     ensures { λ r. ⌜ r ≡ isWriterHeader header ⌝ }
 {
-    let time = header.time;
     let radars = header.radars;
     let known = is_picture_code(header.picture);
-    let timed = is_time(time);
+    let timed = is_minute(header.minute);
     let listed = is_radar_list(radars);
     known & (header.clock <= 16383) & timed & listed
 }

@@ -7,7 +7,8 @@ use lib.Dec.{eqb, leb}
 use lib.ListN.{length}
 use borrow.Author.Tests.{eq-eqb, leb-true}
 use Rattle.general_laws.specs.Bytes.{_!_, every, allOf}
-use Rattle.text.specs.StartBlock.{isDigit, digitPlaces, stopPlaces, isTime, digitsOf, isTimeText, isRadarList, timeTextOf, radarsOf, isStartBlock}
+use Rattle.text_calendar_spec.specs.TimeDigits.{isTime}
+use Rattle.text.specs.StartBlock.{isDigit, digitPlaces, stopPlaces, digitsOf, isTimeText, isRadarList, timeTextOf, radarsOf, isStartBlock}
 use Rattle.general_laws.proofs.Tests.{and-split, every-at}
 use Rattle.text_start_block.specs.Read.{startFront}
 

@@ -1,6 +1,7 @@
 // The start block, 32 bytes, and the header that it gives.
 use text::header::Header;
-use text_calendar::time::is_time;
+use text_calendar::time::time_check;
+use text_calendar_spec::time::TimeCheck;
 use text_codes::table::is_picture_code;
 use text_kinds::table::is_start_kind;
 use text_radars::places::is_radar_list;
@@ -12,6 +13,7 @@ ghost use mathlib.Core.Bool.{true};
 ghost use lib.Dec.{eqb};
 ghost use lib.ListN.{length};
 ghost use Rattle.general_laws.specs.Bytes.{_!_, every};
+ghost use Rattle.text_calendar_spec.specs.TimeDigits.{minuteIn};
 ghost use Rattle.text.specs.StartBlock.{isDigit, digitPlaces, stopPlaces, digitsOf, timeTextOf, headerOf};
 ghost use Rattle.text_start_block.specs.Read.{startRead, brokenStart, startFront};
 
@@ -28,7 +30,7 @@ fn broken() -> StartRead
     StartRead {
         kept: false,
         header: Header {
-            time: [0; 12],
+            minute: 0,
             radars: [0; 8],
             clock: 0,
             picture: 0,
@@ -106,14 +108,14 @@ fn eight(bytes: &[u8]) -> [u8; 8]
     ]
 }
 
-// The header of a block whose time has its digits. Notice 49, 4(1)(1-1)(c)(イ) and (d)(イ)
-fn header_of(block: &[u8]) -> Header
+// The header of a block whose time gives this minute. Request 111; Notice 49, 4(1)(1-1)(c)(イ) and (d)(イ)
+fn header_of(block: &[u8], minute: i64) -> Header
     requires { ⌜ length (now block) ≡ 32 ⌝ }
-    requires { ⌜ every (λ i. isDigit (timeTextOf (now block) ! i)) digitPlaces ≡ true ⌝ }
+    requires { ⌜ minute ≡ minuteIn (digitsOf (timeTextOf (now block))) ⌝ }
     ensures { λ r. ⌜ r ≡ headerOf (now (block .entry)) ⌝ }
 {
     Header {
-        time: digits_of(&block[8..24]),
+        minute,
         radars: eight(&block[24..32]),
         clock: clock_of(block[6], block[7]),
         picture: block[1],
@@ -132,7 +134,7 @@ fn is_start_front(block: &[u8]) -> bool
     (block[0] == 0xFD) & known & (block[3] == 0) & moded & (block[6] <= 0x7F) & (block[7] <= 0x7F)
 }
 
-// Reads a start block: its header, where it keeps every rule.
+// Reads a start block: its header, where it keeps every rule. The time is worked out once (Request 111).
 // Notice 49, 4(1)(1-1)(c)(イ) and (d)(イ). 4(1)(1-2) and 4(2) refer to these
 pub fn read_start(block: &[u8]) -> StartRead
     ensures { λ r. ⌜ r ≡ startRead (now (block .entry)) ⌝ }
@@ -146,12 +148,12 @@ pub fn read_start(block: &[u8]) -> StartRead
     if !(has_digits(&block[8..24]) & has_stops(&block[8..24])) {
         return broken();
     }
-    let header = header_of(block);
-    let time = header.time;
-    let radars = header.radars;
-    if !is_time(time) {
+    let time = time_check(digits_of(&block[8..24]));
+    let TimeCheck::Minute(minute) = time else {
         return broken();
-    }
+    };
+    let header = header_of(block, minute);
+    let radars = header.radars;
     if !is_radar_list(radars) {
         return broken();
     }

@@ -3,6 +3,7 @@ use crate::print::byte;
 use crate::print::end_line;
 use crate::print::list;
 use crate::print::number;
+use crate::print::signed;
 use receiver_state::state::State;
 
 // Adler-32 begun at 0, so that zeros have 0: a sum of the bytes, and a sum of these sums, so that a
@@ -22,10 +23,9 @@ fn sum(grid: &[u8]) -> u64 {
 // Header, modes and the grid's sum, to the line's end
 pub fn numbers(s: State, grid: &[u8]) {
     let header = s.header;
-    let time = header.time;
     let radars = header.radars;
     let modes = s.modes;
-    list(&time);
+    signed(header.minute);
     list(&radars);
     number(header.clock as u64);
     byte(header.picture);

@@ -3,6 +3,7 @@
 use crate::held::numbers;
 use crate::print::byte;
 use crate::print::number;
+use crate::print::twelve;
 use crate::print::word;
 use receiver_byte_call::calls::CallResult;
 use receiver_byte_call::calls::byte_call;
@@ -35,7 +36,10 @@ const STATES: [[u8; 7]; 12] = [
 ];
 
 // All twenty marks
-const ALL: u32 = 1048575;
+pub const ALL: u32 = 1048575;
+
+// No digit of the time waits (Request 111)
+const NO_DIGITS: [u8; 12] = [0; 12];
 
 // All twenty marks and none; the mark beyond the twentieth, and every bit
 const MARKS: [u32; 4] = [ALL, 0, 1048576, 4294967295];
@@ -61,6 +65,7 @@ fn line(call: u8, result: CallResult, grid: &[u8]) {
     let answer = result.answer;
     let s = result.state;
     let f = s.frame;
+    let digits = s.digits;
     answer_word(answer);
     byte(call);
     byte(number_of(answer));
@@ -68,12 +73,13 @@ fn line(call: u8, result: CallResult, grid: &[u8]) {
     number(s.seen);
     frame_numbers(f);
     number(s.marks as u64);
+    twelve(digits);
     numbers(s, grid);
 }
 
-// Both calls, lent `n` bytes of `space`, in a state with the header and modes of `held`, these marks,
-// and the control bytes as the last bytes seen. The byte would end an opening
-fn both(held: State, space: &mut [u8], n: usize, f: [u8; 7], marks: u32) {
+// Both calls, lent `n` bytes of `space`, in a state with the header and modes of `held`, these digits
+// and marks, and the control bytes as the last bytes seen. The byte would end an opening
+pub fn both(held: State, space: &mut [u8], n: usize, f: [u8; 7], digits: [u8; 12], marks: u32) {
     if space.len() < n {
         return;
     }
@@ -92,6 +98,7 @@ fn both(held: State, space: &mut [u8], n: usize, f: [u8; 7], marks: u32) {
         },
         header,
         modes,
+        digits,
         marks,
     };
     let grid = &mut space[..n];
@@ -105,7 +112,7 @@ fn both(held: State, space: &mut [u8], n: usize, f: [u8; 7], marks: u32) {
 pub fn states(held: State, grid: &mut [u8]) {
     let mut i = 0;
     while i < 12 {
-        both(held, grid, 20000, STATES[i], ALL);
+        both(held, grid, 20000, STATES[i], NO_DIGITS, ALL);
         i += 1;
     }
 }
@@ -115,7 +122,14 @@ pub fn states(held: State, grid: &mut [u8]) {
 pub fn marks(held: State, grid: &mut [u8]) {
     let mut i = 0;
     while i < 4 {
-        both(held, grid, 20000, [0, 0, 0, 0, 0, 0, 5], MARKS[i]);
+        both(
+            held,
+            grid,
+            20000,
+            [0, 0, 0, 0, 0, 0, 5],
+            NO_DIGITS,
+            MARKS[i],
+        );
         i += 1;
     }
 }
@@ -125,8 +139,8 @@ pub fn lengths(held: State, space: &mut [u8]) {
     let mut i = 0;
     while i < 3 {
         let n = LENGTHS[i];
-        both(held, space, n, [0, 0, 0, 0, 0, 0, 5], ALL);
-        both(held, space, n, [0, 0, 0, 0, 0, 0, 6], ALL);
+        both(held, space, n, [0, 0, 0, 0, 0, 0, 5], NO_DIGITS, ALL);
+        both(held, space, n, [0, 0, 0, 0, 0, 0, 6], NO_DIGITS, ALL);
         i += 1;
     }
 }

@@ -3,11 +3,14 @@ use crate::held::numbers;
 use crate::print::byte;
 use crate::print::end_line;
 use crate::print::number;
+use crate::print::signed;
+use crate::print::twelve;
 use crate::print::word;
 use receiver_byte_call::calls::byte_call;
 use receiver_slice_call::calls::slice_call;
 use receiver_state::answer::number_of;
 use receiver_state::state::State;
+use text_kinds::table::is_start_kind;
 ghost use Prim.Native.Nat.{_≤_};
 ghost use lib.ListN.{length};
 
@@ -35,8 +38,26 @@ fn cut_line(k: usize, taken: usize, answer: u8, s: State, grid: &[u8]) {
     after(taken, answer, s, grid);
 }
 
+// At places 8 to 25 of a start text, the header's minute and the digits of the time that wait in the
+// state (Request 111)
+fn waiting_line(taken: usize, s: State) {
+    let frame = s.frame;
+    let header = s.header;
+    let digits = s.digits;
+    if !is_start_kind(frame.kind) | (frame.place < 8) | (25 < frame.place) {
+        return;
+    }
+    word(b"waiting");
+    number(taken as u64);
+    number(frame.place as u64);
+    signed(header.minute);
+    twelve(digits);
+    end_line();
+}
+
 fn byte_line(taken: usize, answer: u8, s: State, grid: &[u8]) {
     if answer == 0 {
+        waiting_line(taken, s);
         return;
     }
     word(b"byte");

@@ -1,6 +1,7 @@
 // The lines of a complete part: header and modes, and the whole grid.
 use crate::out::list;
 use crate::out::number;
+use crate::out::signed;
 use crate::out::spaced;
 use crate::out::word;
 use receiver_state::answer::Answer;
@@ -49,17 +50,16 @@ fn grid_line(out: &mut [u8], used: usize, grid: &[u8]) -> usize
     word(out, w, b"\n")
 }
 
-// Time, radars and modes, by place
-fn places(out: &mut [u8], used: usize, time: [u8; 12], radars: [u8; 8], modes: [u8; 8]) -> usize
+// Radars and modes, by place
+fn places(out: &mut [u8], used: usize, radars: [u8; 8], modes: [u8; 8]) -> usize
     requires { ⌜ used ≤ length (now out) ⌝ }
     ensures { λ r. ⌜ r ≤ length (now (out .entry)) ⌝ }
 {
-    let timed = list(out, used, &time);
-    let listed = list(out, timed, &radars);
+    let listed = list(out, used, &radars);
     list(out, listed, &modes)
 }
 
-// Picture code, clock, NO ECHO and mode
+// Picture code, clock, NO ECHO, mode and minute (Request 111)
 fn fields(out: &mut [u8], used: usize, header: Header) -> usize
     requires { ⌜ used ≤ length (now out) ⌝ }
     ensures { λ r. ⌜ r ≤ length (now (out .entry)) ⌝ }
@@ -67,7 +67,8 @@ fn fields(out: &mut [u8], used: usize, header: Header) -> usize
     let pictured = spaced(out, used, header.picture as u64);
     let clocked = spaced(out, pictured, header.clock as u64);
     let echoed = spaced(out, clocked, header.noecho as u64);
-    spaced(out, echoed, header.mode as u64)
+    let moded = spaced(out, echoed, header.mode as u64);
+    signed(out, moded, header.minute)
 }
 
 // Header and modes of a part, which is 1, 2 or 3
@@ -76,13 +77,12 @@ fn header_line(out: &mut [u8], used: usize, part: u8, s: State) -> usize
     ensures { λ r. ⌜ r ≤ length (now (out .entry)) ⌝ }
 {
     let header = s.header;
-    let time = header.time;
     let radars = header.radars;
     let modes = s.modes;
     let named = word(out, used, b"held");
     let numbered = spaced(out, named, part as u64);
     let headed = fields(out, numbered, header);
-    let ended = places(out, headed, time, radars, modes);
+    let ended = places(out, headed, radars, modes);
     word(out, ended, b"\n")
 }
 

@@ -10,8 +10,9 @@
 //                          the fresh state when its marks are overwritten by the number itself
 //   slice TOTAL ANSWER     the stream to that receiver by slice calls, each given all bytes that are
 //                          left: for each answer but 0; TOTAL is the bytes of the stream so far
-//   held PART PICTURE CLOCK NOECHO MODE TIME RADARS MODES
-//                          after answer 3: 12 digits of the time, 8 radars, 8 modes
+//   held PART PICTURE CLOCK NOECHO MODE MINUTE RADARS MODES
+//                          after answer 3: the minute, a signed count from 1 January 2000, 00:00
+//                          (Request 111), 8 radars, 8 modes
 //   grid RUNS              after that: all bytes of the grid, as COUNTxBYTE for each run of equal ones
 //   byte TOTAL ANSWER      the same stream to another such receiver by byte calls: for each answer
 //                          but 0, and after answer 3 the lines `held` and `grid`

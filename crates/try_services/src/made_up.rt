@@ -2,6 +2,7 @@
 use crate::left::end_with;
 use crate::print::byte;
 use crate::print::number;
+use crate::print::twelve;
 use crate::print::word;
 use receiver_marks::marks::all_marks;
 use receiver_state::state::Frame;
@@ -20,8 +21,9 @@ fn frame_numbers(f: Frame) {
     byte(f.count);
 }
 
-// Place; kind, picture code, part, due text, check byte and count of the bytes seen; marks
-fn line_with(place: u16, f: [u8; 6], marks: u32) {
+// Place; kind, picture code, part, due text, check byte and count of the bytes seen; digits of the time
+// (Request 111); marks
+fn state_line(place: u16, f: [u8; 6], digits: [u8; 12], marks: u32) {
     let held = fresh(0);
     let header = held.header;
     let modes = held.modes;
@@ -41,15 +43,27 @@ fn line_with(place: u16, f: [u8; 6], marks: u32) {
         frame,
         header,
         modes,
+        digits,
         marks,
     };
     number(marks as u64);
+    twelve(digits);
     word(b" set");
     number(count_marks(s) as u64);
     end_with(bytes_left(s));
 }
 
-// With all twenty marks
+// With no digits
+fn line_with(place: u16, f: [u8; 6], marks: u32) {
+    state_line(place, f, [0; 12], marks);
+}
+
+// With all twenty marks, and digits
+fn waiting_line(place: u16, f: [u8; 6], digits: [u8; 12]) {
+    state_line(place, f, digits, all_marks());
+}
+
+// With all twenty marks, and no digits
 fn line(place: u16, f: [u8; 6]) {
     line_with(place, f, all_marks());
 }
@@ -130,8 +144,36 @@ fn beyond() {
     line_with(0, [0, 0, 0, 0, 0, 5], 4294967295);
 }
 
+// Digits of which only the first is not 0
+fn first(digit: u8) -> [u8; 12] {
+    [digit, 0, 0, 0, 0, 0, 0, 0, 0, 0, 0, 0]
+}
+
+// Digits of which only the last is not 0
+fn last(digit: u8) -> [u8; 12] {
+    [0, 0, 0, 0, 0, 0, 0, 0, 0, 0, 0, digit]
+}
+
+// Digits at the first place of a start text that has any, and at the last (Request 111)
+fn waiting() {
+    waiting_line(9, [0x10, 0xCC, 0, 0, 0, 5], first(9));
+    waiting_line(23, [0x20, 0xCC, 0, 0, 0, 5], [9; 12]);
+}
+
+// A digit above 9; one that is not 0 before the first is taken, after byte 23, between texts and in an
+// end text (Request 111)
+fn not_waiting() {
+    waiting_line(17, [0x10, 0xCC, 0, 0, 0, 5], first(10));
+    waiting_line(8, [0x10, 0xCC, 0, 0, 0, 5], first(1));
+    waiting_line(24, [0x10, 0xCC, 0, 0, 0, 5], last(1));
+    waiting_line(0, [0, 0, 0, 0, 0, 5], last(1));
+    waiting_line(12, [0x1F, 0xCC, 1, 11, 0, 5], first(1));
+}
+
 pub fn lines() {
     possible();
     impossible();
     beyond();
+    waiting();
+    not_waiting();
 }

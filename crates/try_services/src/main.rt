@@ -16,8 +16,10 @@
 //   text K LENGTH SUM                   the payload of data text K of the bytes in the line above
 //   taken TAKEN PLACE left BYTES        bytes left after so many bytes of the part named above, where
 //                                       the state has this place; TAKEN 0 is a fresh state
-//   state PLACE KIND PICTURE PART DUE CHECK SEEN-COUNT left BYTES
-//                                       bytes left in a state of these numbers
+//   state PLACE KIND PICTURE PART DUE CHECK SEEN-COUNT MARKS DIGITS set COUNT left BYTES
+//                                       how many marks are set, and bytes left, in a state of these
+//                                       numbers; DIGITS is the twelve digits of the time, each as
+//                                       two hexadecimal digits (Request 111)
 // Where a service refuses, `refused` and the row of 01 stand in place of the last word and its
 // number. In an overlay's line they stand in place of `laid`, and the sum is that of the third grid
 // as it was.

@@ -8,9 +8,10 @@ ghost use lib.ListN.{length};
 
 const MODES: [u8; 8] = [2, 1, 3, 0, 0, 0, 0, 0];
 
+// The minute is that of 1999.06.07.12.10 (Request 111)
 fn header() -> WriterHeader {
     WriterHeader {
-        time: [1, 9, 9, 9, 0, 6, 0, 7, 1, 2, 1, 0],
+        minute: -298790,
         radars: [0xA0, 0xA7, 0xB3, 0, 0, 0, 0, 0],
         clock: 9983,
         picture: 0xCC,

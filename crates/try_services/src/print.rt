@@ -1,6 +1,8 @@
 // Words and numbers on standard output.
 use libc::STDOUT_FILENO;
 
+const HEX: [u8; 16] = *b"0123456789ABCDEF";
+
 // A word; one that does not begin its line brings the space before it
 pub fn word(w: &[u8]) {
     io::write_all(STDOUT_FILENO, w);
@@ -24,4 +26,20 @@ pub fn byte(n: u8) {
 pub fn refused(row: u8) {
     word(b" refused");
     byte(row);
+}
+
+// A byte as two hexadecimal digits
+fn hex(b: u8) {
+    let two = [HEX[(b / 16) as usize], HEX[(b % 16) as usize]];
+    io::write_all(STDOUT_FILENO, &two);
+}
+
+// The digits of a time, each as a byte in hexadecimal, with a space before the first (Request 111)
+pub fn twelve(digits: [u8; 12]) {
+    io::write_all(STDOUT_FILENO, b" ");
+    let mut i = 0;
+    while i < 12 {
+        hex(digits[i]);
+        i += 1;
+    }
 }

@@ -5,6 +5,7 @@ use crate::bytes;
 use crate::dates;
 use crate::pairs;
 use crate::print::number;
+use crate::times;
 use crate::writer_headers;
 use libc::STDOUT_FILENO;
 ghost use Prim.Native.Nat.{_≤_, _<_};
@@ -52,7 +53,9 @@ pub fn line(asked: u8, args: &[u8])
 {
     io::print_decimal(STDOUT_FILENO, asked as u64);
     match asked {
+        50 => times::check(args),
         56 => writer_headers::writer_header_of_header(args),
+        58 => times::digits(args),
         64 => blocks::put_into(args),
         _ => results(asked, args),
     }

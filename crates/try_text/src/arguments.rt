@@ -1,4 +1,5 @@
 // The arguments of a request. Past their end there are zeros.
+use text_signed_numbers::numbers::of_pattern;
 ghost use Prim.Native.Nat.{_<_};
 
 pub fn byte_at(args: &[u8], i: usize) -> u8 {
@@ -20,6 +21,21 @@ pub fn two_at(args: &[u8], i: usize) -> u16
     (byte_at(args, i) as u16) * 256 + (byte_at(args, i + 1) as u16)
 }
 
+fn four_at(args: &[u8], i: usize) -> u32
+    requires { ⌜ i < 192 ⌝ }
+{
+    (two_at(args, i) as u32) * 65536 + (two_at(args, i + 2) as u32)
+}
+
+// A number of eight bytes in two's complement, high byte first, as a minute is (Request 111)
+pub fn minute_at(args: &[u8], i: usize) -> i64
+    requires { ⌜ i < 128 ⌝ }
+{
+    let high = four_at(args, i) as u64;
+    let low = four_at(args, i + 4) as u64;
+    of_pattern(high * 0x1_0000_0000 + low)
+}
+
 pub fn eight_at(args: &[u8], i: usize) -> [u8; 8]
     requires { ⌜ i < 256 ⌝ }
 {
@@ -35,7 +51,7 @@ pub fn eight_at(args: &[u8], i: usize) -> [u8; 8]
     ]
 }
 
-// The first twelve, which are the digits of a time wherever there is one
+// The first twelve
 pub fn twelve(args: &[u8]) -> [u8; 12] {
     [
         byte_at(args, 0),

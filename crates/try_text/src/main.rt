@@ -15,6 +15,7 @@ mod blocks;
 mod bytes;
 mod dates;
 mod pairs;
+mod times;
 mod writer_headers;
 
 use crate::answers::line;

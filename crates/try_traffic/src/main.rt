@@ -6,8 +6,9 @@
 //
 // Lines are words and decimal numbers:
 //   CALL TOTAL ANSWER      for each answer but 0; CALL is `byte` or `slice`, TOTAL the bytes read so far
-//   held PART PICTURE CLOCK NOECHO MODE TIME RADARS MODES
-//                          after answer 3: 12 digits of the time, 8 radars, 8 modes
+//   held PART PICTURE CLOCK NOECHO MODE MINUTE RADARS MODES
+//                          after answer 3: the minute, a signed count from 1 January 2000, 00:00
+//                          (Request 111), 8 radars, 8 modes
 //   grid RUNS              after that: all bytes of the grid, as COUNTxBYTE for each run of equal ones
 mod held;
 mod out;

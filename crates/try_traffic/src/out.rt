@@ -1,6 +1,7 @@
 // Words and numbers on standard output, by way of a buffer `out` in which the first `used` bytes
 // wait: each function gives how many wait after it.
 use libc::STDOUT_FILENO;
+use text_signed_numbers::numbers::distance;
 ghost use Prim.Native.Nat.{_≤_};
 ghost use lib.ListN.{length};
 
@@ -58,6 +59,18 @@ pub fn spaced(out: &mut [u8], used: usize, n: u64) -> usize
 {
     let at = word(out, used, b" ");
     number(out, at, n)
+}
+
+// A minute, which may be below 0, with a space before it (Request 111)
+pub fn signed(out: &mut [u8], used: usize, n: i64) -> usize
+    requires { ⌜ used ≤ length (now out) ⌝ }
+    ensures { λ r. ⌜ r ≤ length (now (out .entry)) ⌝ }
+{
+    if n < 0 {
+        let at = word(out, used, b" -");
+        return number(out, at, distance(n));
+    }
+    spaced(out, used, distance(n))
 }
 
 fn byte(out: &mut [u8], used: usize, b: u8) -> usize

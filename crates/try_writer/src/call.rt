@@ -1,8 +1,9 @@
-// One call of the writer. Its head is the part (1 byte), the time (12), radars (8), clock (2), picture
-// code (1), modes (8), the output's length (2) and the payload's length (2); of a number's two bytes
-// the high one comes first.
+// One call of the writer. Its head is the part (1 byte), the minute (8, in two's complement; Request
+// 111), radars (8), clock (2), picture code (1), modes (8), the output's length (2) and the payload's
+// length (2); of a number's bytes the high one comes first.
 use crate::arguments::byte_at;
 use crate::arguments::eight_at;
+use crate::arguments::minute_at;
 use crate::arguments::two_at;
 use crate::print::end_line;
 use crate::print::number;
@@ -13,29 +14,12 @@ use text::header::WriterHeader;
 use writer::part::WriteResult;
 use writer::part::write_part;
 
-fn time(head: &[u8]) -> [u8; 12] {
-    [
-        byte_at(head, 1),
-        byte_at(head, 2),
-        byte_at(head, 3),
-        byte_at(head, 4),
-        byte_at(head, 5),
-        byte_at(head, 6),
-        byte_at(head, 7),
-        byte_at(head, 8),
-        byte_at(head, 9),
-        byte_at(head, 10),
-        byte_at(head, 11),
-        byte_at(head, 12),
-    ]
-}
-
 fn header(head: &[u8]) -> WriterHeader {
     WriterHeader {
-        time: time(head),
-        radars: eight_at(head, 13),
-        clock: two_at(head, 21),
-        picture: byte_at(head, 23),
+        minute: minute_at(head, 1),
+        radars: eight_at(head, 9),
+        clock: two_at(head, 17),
+        picture: byte_at(head, 19),
     }
 }
 
@@ -58,7 +42,7 @@ fn attempt(head: &[u8], payload: &[u8], output: &mut [u8]) {
     let answer = write_part(
         byte_at(head, 0),
         header(head),
-        eight_at(head, 24),
+        eight_at(head, 20),
         payload,
         output,
     );
@@ -70,6 +54,6 @@ fn attempt(head: &[u8], payload: &[u8], output: &mut [u8]) {
 
 pub fn call(head: &[u8], payload: &[u8]) {
     let mut output = [0xAAu8; 65536];
-    let long = two_at(head, 32) as usize;
+    let long = two_at(head, 28) as usize;
     attempt(head, payload, &mut output[..long]);
 }

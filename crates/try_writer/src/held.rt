@@ -3,16 +3,16 @@ use crate::print::byte;
 use crate::print::end_line;
 use crate::print::list;
 use crate::print::number;
+use crate::print::signed;
 use crate::sums::adler;
 use receiver_state::state::State;
 
 // Header, modes and the grid's sum, to the line's end
 pub fn numbers(s: State, grid: &[u8]) {
     let header = s.header;
-    let time = header.time;
     let radars = header.radars;
     let modes = s.modes;
-    list(&time);
+    signed(header.minute);
     list(&radars);
     number(header.clock as u64);
     byte(header.picture);

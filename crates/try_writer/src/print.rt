@@ -1,5 +1,6 @@
 // Words and numbers on standard output.
 use libc::STDOUT_FILENO;
+use text_signed_numbers::numbers::distance;
 
 // The word that a line begins with
 pub fn word(w: &[u8]) {
@@ -18,6 +19,16 @@ pub fn number(n: u64) {
 
 pub fn byte(n: u8) {
     number(n as u64);
+}
+
+// A minute, which may be below 0, with a space before it (Request 111)
+pub fn signed(n: i64) {
+    if n < 0 {
+        io::write_all(STDOUT_FILENO, b" -");
+        io::print_decimal(STDOUT_FILENO, distance(n));
+        return;
+    }
+    number(distance(n));
 }
 
 // The numbers of a list

@@ -1,6 +1,7 @@
 // Start and end blocks from byte 3 on.
 use text::bytes::put;
 use text::header::WriterHeader;
+use text_calendar::time::digits_of;
 use text_status::status::highest_mode;
 use text_status::status::mode_byte;
 ghost use mathlib.Core.Path.{_≡_};
@@ -8,6 +9,7 @@ ghost use mathlib.Core.Bool.{true};
 ghost use lib.Dec.{leb};
 ghost use Prim.Native.Nat.{_≤_};
 ghost use Rattle.general_laws.specs.Bytes.{every};
+ghost use Rattle.text_calendar_spec.specs.Minutes.{isMinute};
 ghost use Rattle.writer_spec.specs.Written.{timeText, startContents, endContents};
 
 // The time in ASCII, `YYYY.MM.DD.hh.mm`. Notice 49, 4(1)(1-1)(c)(イ) and (d)(イ)
@@ -35,10 +37,10 @@ fn time_text(digits: [u8; 12]) -> [u8; 16]
     ]
 }
 
-// The start block from byte 3 on: NULL, status bytes, clock, time, radars.
-// Notice 49, 4(1)(1-1)(c)(イ) and (d)(イ)
+// The start block from byte 3 on: NULL, status bytes, clock, the time of the minute (Request 111),
+// radars. Notice 49, 4(1)(1-1)(c)(イ) and (d)(イ)
 pub(crate) fn start_contents(noecho: bool, header: WriterHeader, modes: [u8; 8]) -> [u8; 29]
-    requires { ⌜ every (λ d. leb d 9) (header .time) ≡ true ⌝ }
+    requires { ⌜ isMinute (header .minute) ≡ true ⌝ }
     requires { ⌜ header .clock ≤ 16383 ⌝ }
     ensures { λ r. ⌜ r ≡ startContents noecho header modes ⌝ }
 {
@@ -46,8 +48,8 @@ pub(crate) fn start_contents(noecho: bool, header: WriterHeader, modes: [u8; 8])
     let status2 = mode_byte(highest_mode(modes));
     let high = (header.clock / 128) as u8;
     let low = (header.clock % 128) as u8;
-    let digits = header.time;
-    let time = time_text(digits);
+    let minute = header.minute;
+    let time = time_text(digits_of(minute));
     let radars = header.radars;
     let mut contents = [0u8; 29];
     put(&mut contents, 1, &[status1, status2, high, low]);

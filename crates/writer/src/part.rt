@@ -3,8 +3,9 @@
 // From the contract to demand 2: `outcomeOf` reads a call's result and output as `writer_spec` does, and
 // the contract says that they are `writes` of what was handed in. So `demand-2` (writer_spec,
 // proofs/Theorem) is about the bytes that this code writes: `readsBack` and `nothingElse` about all
-// that it takes, `rows` about all that it refuses, `rewritten` about what a receiver holds after a
-// part, and `relayed` about what it holds after any call answered 3.
+// that it takes, `timeWritten` about the bytes of its time (Request 111), `rows` about all that it
+// refuses, `rewritten` about what a receiver holds after a part, and `relayed` about what it holds
+// after any call answered 3.
 use crate::contents::end_contents;
 use crate::contents::start_contents;
 use crate::data::is_payload;

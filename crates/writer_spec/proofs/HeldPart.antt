@@ -11,7 +11,7 @@ use lib.Seq.{length-take-le, take-append-add}
 use borrow.Author.Tests.{eqb-true, leb-true, eq-eqb, le-leb}
 use Rattle.general_laws.specs.Bytes.{_!_, bit, isIn, every, allOf}
 use Rattle.text.specs.Kinds.{isKind, isPartNumber, partOf, dataBlockLength, payloadLength}
-use Rattle.text.specs.StartBlock.{oneOf, modeOf, hasMode, isClockByte, clockOf, digitsOf, timeTextOf, radarsOf, noEchoOf, headerOf}
+use Rattle.text.specs.StartBlock.{oneOf, modeOf, hasMode, isClockByte, clockOf, timeTextOf, radarsOf, noEchoOf, headerOf}
 use Rattle.text.specs.DataBlock.{isIntensityByte, isTopByte, isQualityByte, oddLevel, evenLevel, isPayloadByte, payloadOf}
 use Rattle.text.specs.EndBlock.{radarPlaces, isModeByte, modesOf}
 use Rattle.text.specs.Part.{Part, inOrder, isPart, gridLength, payloadsOf, zeros, gridOf, partHeader, partModes}
@@ -22,7 +22,7 @@ use Rattle.text_laws.proofs.Blocks.{StartRules, start-rules, data-rules, EndRul
 use Rattle.text_laws.proofs.Parts.{data-sized, order-split, payloads-length, payload-fits, grid-length, every-zeros}
 use Rattle.writer_spec.specs.Written.{isPayload}
 use Rattle.writer_spec.specs.Demand2.{Accepted, heldPart, heldPayload}
-use Rattle.writer_spec.proofs.WrittenAgain.{time-kept}
+use Rattle.writer_spec.proofs.WrittenAgain.{time-minute}
 
 -- ---- zeros, and tests of lists
 
@@ -121,7 +121,7 @@ module _ (part : Part) (h : isPart part ≡ true) where
 
   header-kept : isWriterHeader (writerHeaderOf (partHeader part)) ≡ true
   unfolding isWriterHeader headerOf allOf
-  header-kept = rw (startRules .picture, clock-kept (part .start ! 6) (part .start ! 7) (startRules .clockHigh) (startRules .clockLow), time-kept (timeTextOf (part .start)) (startRules .time), startRules .radars)
+  header-kept = rw (startRules .picture, clock-kept (part .start ! 6) (part .start ! 7) (startRules .clockHigh) (startRules .clockLow), time-minute (timeTextOf (part .start)) (startRules .time) .0, startRules .radars)
 
   modes-kept : areModesFor (radarsOf (part .start)) (partModes part) ≡ true
   unfolding areModesFor modesOf every isIn
@@ -137,13 +137,12 @@ module _ (part : Part) (h : isPart part ≡ true) where
 
   -- The writer takes what a receiver holds
   pub held-taken : Accepted (heldPart part) (writerHeaderOf (partHeader part)) (partModes part) (heldPayload part)
-  unfolding isWriterInput headerOf digitsOf modesOf
+  unfolding isWriterInput headerOf modesOf
   held-taken =
       record {
         part = is-part-number;
         input = and-join header-kept modes-kept;
         allowed = is-payload;
-        digits = refl;
         radars = radars-long;
         places = refl;
       }

@@ -9,9 +9,11 @@ use lib.ListN.{length}
 use lib.Seq.{take-all}
 use borrow.Author.Tests.{eqb-true, eqb-false, leb-true, le-leb, not-true}
 use Rattle.general_laws.specs.Bytes.{_!_, isIn, every, allOf, bit}
+use Rattle.text_calendar_spec.specs.Minutes.{isMinute}
+use Rattle.text_calendar_spec.specs.TimeDigits.{isTime, minuteIn, digitsAt}
 use Rattle.text.specs.Pictures.{isPictureCode}
 use Rattle.text.specs.Kinds.{kinds, isPartNumber, isKind, isStartKind, isEndKind, partOf, textNumber, kindOf}
-use Rattle.text.specs.StartBlock.{noEchoOf, modeOf, modeByte, hasMode, isClockByte, clockOf, clockBytes, isDigit, digitsOf, isTime, isTimeText, isRadarList, isStartBlock, headerOf}
+use Rattle.text.specs.StartBlock.{noEchoOf, modeOf, modeByte, hasMode, isClockByte, clockOf, clockBytes, isDigit, digitsOf, isTimeText, timeTextOf, isRadarList, isStartBlock, headerOf}
 use Rattle.text.specs.EndBlock.{radarPlaces, isModeByte, isEndBlock, modesOf, highest}
 use Rattle.text.specs.Part.{zeros}
 use Rattle.text.specs.WriterInput.{isModeFor, areModesFor, isWriterHeader, isWriterInput}
@@ -19,8 +21,9 @@ use Rattle.text.specs.declared.header.WriterHeader.{WriterHeader}
 use Rattle.general_laws.proofs.Places.{by-place, places}
 use Rattle.general_laws.proofs.Computed.{same-tests}
 use Rattle.general_laws.proofs.Tests.{by-test, and-split, and-join, every-at, every-in, rule-at}
+use Rattle.text_calendar_spec.proofs.Laws.{minute-kept, digits-kept}
 use Rattle.text_laws.proofs.Blocks.{start-keeps, EndRules, end-keeps}
-use Rattle.writer_spec.specs.Written.{statusByte, char, timeText, blockOf, startContents, endContents}
+use Rattle.writer_spec.specs.Written.{statusByte, char, timeText, blockOf, startContents, endContents, writtenPart}
 use Rattle.writer_spec.specs.Demand2.{Accepted}
 
 -- 1, 2 or 3: a part, or a mode
@@ -99,6 +102,12 @@ module _ (d : List ℕ) (twelve : length d ≡ 12) where
       digit : (i : ℕ) → i < 12 → isDigit (char (d ! i)) ≡ true
       digit i l = char-digit (d ! i) (small-digits d h i (subst (λ n. i < n) (sym twelve) l))
 
+-- Request 111: of a time's minute, the sixteen bytes of its digits are written
+pub time-written : (p : ℕ) (h : WriterHeader) (modes payload ds : List ℕ) → length ds ≡ 12 → isTime ds ≡ true → h .minute ≡ minuteIn ds
+    → timeTextOf (writtenPart p h modes payload .start) ≡ timeText ds
+unfolding writtenPart startContents clockBytes timeText
+time-written p h modes payload ds twelve timed e = ap timeText (ap digitsAt e ∙ digits-kept ds twelve timed .1)
+
 -- ---- the start block
 
 highest-first : (ms : List ℕ) → ms ! 0 ≤ highest ms
@@ -134,7 +143,7 @@ status-back false = refl
 
 module _ (p : ℕ) (h : WriterHeader) (modes payload : List ℕ) (t : Accepted p h modes payload) where
   abbrev rules : List Bool
-  rules = isPictureCode (h .picture) ∷ leb (h .clock) 16383 ∷ isTime (h .time) ∷ isRadarList (h .radars) ∷ []
+  rules = isPictureCode (h .picture) ∷ leb (h .clock) 16383 ∷ isMinute (h .minute) ∷ isRadarList (h .radars) ∷ []
 
   header-rules : allOf rules ≡ true
   unfolding isWriterInput isWriterHeader
@@ -149,6 +158,10 @@ module _ (p : ℕ) (h : WriterHeader) (modes payload : List ℕ) (t : Accepted p
 
   clock : h .clock ≤ 16383
   clock = leb-true (h .clock) 16383 (rule-at rules header-rules 1)
+
+  -- the minute's digits are twelve, and a time whose minute it is
+  minuted : (length (digitsAt (h .minute)) ≡ 12) × (isTime (digitsAt (h .minute)) ≡ true) × (minuteIn (digitsAt (h .minute)) ≡ h .minute)
+  minuted = minute-kept (h .minute) (rule-at rules header-rules 2)
 
   -- one mode for each radar or none
   pub each : (i : ℕ) → isIn i radarPlaces ≡ true → isModeFor (h .radars ! i) (modes ! i) ≡ true
@@ -183,14 +196,14 @@ module _ (p : ℕ) (h : WriterHeader) (modes payload : List ℕ) (t : Accepted p
         mode = mode-back top-mode .0;
         clockHigh = le-leb (h .clock / 128) 127 (omega (arith, clock));
         clockLow = le-leb (h .clock % 128) 127 (omega arith);
-        time = time-kept (h .time) (t .digits) (rule-at rules header-rules 2);
+        time = time-kept (digitsAt (h .minute)) (minuted .0) (minuted .1);
         radars = subst (λ r. isRadarList r ≡ true) (sym (take-all 8 (h .radars) (omega (arith, t .radars)))) (rule-at rules header-rules 3);
       })
 
-  pub start-header : (e : Bool) → headerOf (start e) ≡ record { time = h .time; radars = h .radars; clock = h .clock; picture = h .picture; mode = highest modes; noecho = e }
+  pub start-header : (e : Bool) → headerOf (start e) ≡ record { minute = h .minute; radars = h .radars; clock = h .clock; picture = h .picture; mode = highest modes; noecho = e }
   unfolding headerOf startContents clockBytes timeText
   start-header e =
-      rw (time-back (h .time) (t .digits), take-all 8 (h .radars) (omega (arith, t .radars)), clock-back (h .clock), mode-back top-mode .1, status-back e)
+      rw (time-back (digitsAt (h .minute)) (minuted .0), minuted .2, take-all 8 (h .radars) (omega (arith, t .radars)), clock-back (h .clock), mode-back top-mode .1, status-back e)
 
   -- ---- the end block
 

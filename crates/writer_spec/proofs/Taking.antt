@@ -30,9 +30,9 @@ module _ (p : ℕ) (h : WriterHeader) (modes payload output : List ℕ) where
   refusal : {row n : ℕ} → refused row ≡ bytesWritten n → ⊥
   refusal e = omega (arith, ap isRefusal e)
 
-  pub nothing-else : length (h .time) ≡ 12 → length (h .radars) ≡ 8 → length modes ≡ 8 → Kept (writes p h modes payload output)
+  pub nothing-else : length (h .radars) ≡ 8 → length modes ≡ 8 → Kept (writes p h modes payload output)
   unfolding writes
-  nothing-else digits radars places =
+  nothing-else radars places =
       by-if Kept (not (isPartNumber p)) (λ _ n e. absurd (refusal e))
       (λ part. by-if Kept (not (isWriterInput h modes)) (λ _ n e. absurd (refusal e))
       (λ input. by-if Kept (not (isPayload p payload)) (λ _ n e. absurd (refusal e))
@@ -41,7 +41,6 @@ module _ (p : ℕ) (h : WriterHeader) (modes payload output : List ℕ) where
         part = not-false _ part;
         input = not-false _ input;
         allowed = not-false _ allowed;
-        digits = digits;
         radars = radars;
         places = places;
       } in

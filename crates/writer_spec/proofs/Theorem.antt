@@ -1,5 +1,6 @@
 -- Demand 2, entire: written reads back, and complete is rewritten. Assumes nothing.
 use Rattle.writer_spec.specs.Demand2.{Demand2}
+use Rattle.writer_spec.proofs.RulesKept.{time-written}
 use Rattle.writer_spec.proofs.ReadsBack.{reads-back}
 use Rattle.writer_spec.proofs.Taking.{nothing-else, refused-by-row}
 use Rattle.writer_spec.proofs.Rewriting.{rewritten}
@@ -11,6 +12,7 @@ demand-2 =
     record {
       readsBack = reads-back;
       nothingElse = nothing-else;
+      timeWritten = time-written;
       rows = refused-by-row;
       rewritten = rewritten;
       statusBits = status-bits;

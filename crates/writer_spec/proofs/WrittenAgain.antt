@@ -9,14 +9,17 @@ use lib.ListN.{length, take, drop, length-drop}
 use lib.Seq.{sets, take-at, drop-at}
 use borrow.Author.Tests.{eqb-true, leb-true}
 use Rattle.general_laws.specs.Bytes.{_!_, isIn, every}
+use Rattle.text_calendar_spec.specs.Minutes.{isMinute}
+use Rattle.text_calendar_spec.specs.TimeDigits.{isTime, minuteIn, digitsAt}
 use Rattle.text.specs.Kinds.{isKind, isStartKind, partOf, textNumber, kindOf, dataBlockLength}
-use Rattle.text.specs.StartBlock.{modeByte, isClockByte, clockOf, clockBytes, isTime, digitPlaces, stopPlaces, isDigit, digitsOf, isTimeText, timeTextOf, isStartBlock, headerOf}
+use Rattle.text.specs.StartBlock.{modeByte, isClockByte, clockOf, clockBytes, digitPlaces, stopPlaces, isDigit, digitsOf, isTimeText, timeTextOf, isStartBlock, headerOf}
 use Rattle.text.specs.DataBlock.{payloadOf, isDataBlock}
 use Rattle.text.specs.EndBlock.{isEndBlock, modesOf, highest}
 use Rattle.text.specs.Part.{inOrder, payloadsOf, zeros}
 use Rattle.text.specs.WriterInput.{writerHeaderOf}
 use Rattle.general_laws.proofs.Places.{places, by-place}
 use Rattle.general_laws.proofs.Tests.{and-split, rule-at, every-in}
+use Rattle.text_calendar_spec.proofs.Laws.{digits-kept}
 use Rattle.text_laws.proofs.KindTable.{kind-back, data-is-kind, start-is-kind, block-least}
 use Rattle.text_laws.proofs.Blocks.{StartRules, start-rules, data-rules, EndRules, end-rules, split-3}
 use Rattle.text_laws.proofs.Parts.{Sized, one, data-sized, order-split}
@@ -56,9 +59,14 @@ module _ (chars : List ℕ) (h : isTimeText chars ≡ true) where
   unfolding isTimeText
   time-stop i m = eqb-true (chars ! i) 0x2E (every-in (λ i. eqb (chars ! i) 0x2E) stopPlaces i (rule-at _ h 1) m)
 
-  pub time-kept : isTime (digitsOf chars) ≡ true
+  time-kept : isTime (digitsOf chars) ≡ true
   unfolding isTimeText
   time-kept = rule-at _ h 2
+
+  -- its minute is one of the years, and has these digits
+  pub time-minute : (isMinute (minuteIn (digitsOf chars)) ≡ true) × (digitsAt (minuteIn (digitsOf chars)) ≡ digitsOf chars)
+  unfolding digitsOf
+  time-minute = digits-kept (digitsOf chars) refl time-kept
 
 start-spelled : (byte : ℕ → ℕ) (noEcho : Bool) (modes : List ℕ) → StartRules (spelled byte)
     → blockOf (byte 1) (kindOf (partOf (byte 2)) 0) (startContents noEcho (writerHeaderOf (headerOf (spelled byte))) modes)
@@ -69,6 +77,7 @@ start-spelled byte noEcho modes r =
       start-kind (byte 2) (r .kind),
       clock-high (byte 6) (byte 7) (r .clockLow),
       clock-low (byte 6) (byte 7) (r .clockLow),
+      time-minute chars (r .time) .1,
       digit 0 refl,
       digit 1 refl,
       digit 2 refl,

@@ -10,7 +10,8 @@ use lib.Seq.{sets}
 use Rattle.general_laws.specs.Bytes.{_!_, bit, isIn, every}
 use Rattle.text.specs.Text.{checkByte, textOf}
 use Rattle.text.specs.Kinds.{isPartNumber, partLength, payloadLength}
-use Rattle.text.specs.StartBlock.{noEchoOf, modeOf, modeByte, hasMode}
+use Rattle.text_calendar_spec.specs.TimeDigits.{isTime, minuteIn}
+use Rattle.text.specs.StartBlock.{noEchoOf, modeOf, modeByte, hasMode, timeTextOf}
 use Rattle.text.specs.EndBlock.{highest}
 use Rattle.text.specs.Part.{Part, partBytes, startPart, dataTextsAfter, UndamagedPart, gridLength, zeros, gridOf, partHeader, partModes}
 use Rattle.text.specs.WriterInput.{writerHeaderOf, isWriterInput}
@@ -18,14 +19,13 @@ use Rattle.text.specs.declared.header.Header.{Header}
 use Rattle.text.specs.declared.header.WriterHeader.{WriterHeader}
 use Rattle.receiver_spec.specs.Marks.{isMarked, marksFrom}
 use Rattle.receiver_spec.specs.Calls.{partComplete, number, Request, Call, onGrid, ask, received, singly}
-use Rattle.writer_spec.specs.Written.{writesNoEcho, statusByte, writtenPart, isPayload, bytesWritten, refused, writes}
+use Rattle.writer_spec.specs.Written.{writesNoEcho, statusByte, timeText, writtenPart, isPayload, bytesWritten, refused, writes}
 
 -- What the writer takes: rows 31 to 33 do not refuse it, and header and modes have the lengths of the code's arrays
 pub record Accepted (p : ℕ) (h : WriterHeader) (modes payload : List ℕ) : Type 0 where
   pub part : isPartNumber p ≡ true
   pub input : isWriterInput h modes ≡ true
   pub allowed : isPayload p payload ≡ true
-  pub digits : length (h .time) ≡ 12
   pub radars : length (h .radars) ≡ 8
   pub places : length modes ≡ 8
 
@@ -37,7 +37,7 @@ written p h modes payload = partBytes (writtenPart p h modes payload)
 abbrev pub writtenHeader : ℕ → WriterHeader → List ℕ → List ℕ → Header
 writtenHeader p h modes payload =
     record {
-      time = h .time;
+      minute = h .minute;
       radars = h .radars;
       clock = h .clock;
       picture = h .picture;
@@ -184,9 +184,12 @@ pub record Demand2 : Type 0 where
   -- What the writer takes reads back
   pub readsBack : (p : ℕ) (h : WriterHeader) (modes payload : List ℕ) → Accepted p h modes payload → ReadsBack p h modes payload
   -- It writes nothing else: a call answered with a number of bytes kept rows 31 to 33, and the output had room
-  pub nothingElse : (p : ℕ) (h : WriterHeader) (modes payload output : List ℕ) → length (h .time) ≡ 12 → length (h .radars) ≡ 8 → length modes ≡ 8
+  pub nothingElse : (p : ℕ) (h : WriterHeader) (modes payload output : List ℕ) → length (h .radars) ≡ 8 → length modes ≡ 8
       → (n : ℕ) → writes p h modes payload output .answer ≡ bytesWritten n
       → Accepted p h modes payload × (length (written p h modes payload) ≤ length output)
+  -- Of every valid time, what is written for its minute is the sixteen bytes of its digits: those of before. Request 111
+  pub timeWritten : (p : ℕ) (h : WriterHeader) (modes payload ds : List ℕ) → length ds ≡ 12 → isTime ds ≡ true → h .minute ≡ minuteIn ds
+      → timeTextOf (writtenPart p h modes payload .start) ≡ timeText ds
   -- Any other call is refused by the first row that it breaks
   pub rows : (p : ℕ) (h : WriterHeader) (modes payload output : List ℕ) → RefusedByRow p h modes payload output
   -- Complete is rewritten

@@ -7,6 +7,7 @@ use lib.ListN.{length, take, drop}
 use Rattle.general_laws.specs.Bytes.{_!_, every}
 use Rattle.text.specs.Text.{FD}
 use Rattle.text.specs.Kinds.{isPartNumber, kindOf, dataBlockLength, dataTexts, partLength, payloadLength}
+use Rattle.text_calendar_spec.specs.TimeDigits.{digitsAt}
 use Rattle.text.specs.StartBlock.{modeByte, clockBytes}
 use Rattle.text.specs.DataBlock.{isPayloadByte}
 use Rattle.text.specs.EndBlock.{highest}
@@ -44,10 +45,11 @@ timeText d =
 abbrev pub blockOf : ℕ → ℕ → List ℕ → List ℕ
 blockOf q k contents = FD ∷ q ∷ k ∷ contents
 
--- the start block's bytes from byte 3 on: status 2 is the highest mode. Notice 49, 4(1)(1-1)(c)(イ) and (d)(イ)
+-- the start block's bytes from byte 3 on: status 2 is the highest mode, and the time is that of the minute (Request 111).
+-- Notice 49, 4(1)(1-1)(c)(イ) and (d)(イ)
 unfoldable pub startContents : Bool → WriterHeader → List ℕ → List ℕ
 startContents noEcho h modes =
-    0x00 ∷ statusByte noEcho ∷ modeByte (highest modes) ∷ (clockBytes (h .clock) ++ (timeText (h .time) ++ h .radars))
+    0x00 ∷ statusByte noEcho ∷ modeByte (highest modes) ∷ (clockBytes (h .clock) ++ (timeText (digitsAt (h .minute)) ++ h .radars))
 
 -- the end block's. Notice 49, 4(1)(1-1)(c)(ウ) and (d)(イ)
 unfoldable pub endContents : List ℕ → List ℕ

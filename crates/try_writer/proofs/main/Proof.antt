@@ -6,7 +6,7 @@ use Rattle.try_writer.proofs.main.Statement.{statement}
 use Rattle.try_writer.proofs.main.Tie as tie
 
 abbrev Inv-loop : tie.InvT-loop
-Inv-loop head₀ space₀ turns₀ head space turns = (length head ≡ 36) × (length space ≡ 65536)
+Inv-loop head₀ space₀ turns₀ head space turns = (length head ≡ 32) × (length space ≡ 65536)
 
 abbrev μ-loop : tie.MeasureT-loop
 μ-loop head₀ space₀ turns₀ head space turns = turns

@@ -11,6 +11,7 @@ use Rattle.text.specs.Kinds.{isStartKind, isEndKind, partOf, blockLength}
 use Rattle.text.specs.DataBlock.{isPayloadByte}
 use Rattle.text.specs.declared.header.Header.{Header}
 use Rattle.general_laws.proofs.Tests.{or-split, neither}
+use Rattle.receiver_spec.specs.State.{noDigits}
 use Rattle.receiver_spec.specs.Contents.{startTakes, endTakes, takesByte}
 use Rattle.text_laws.proofs.KindTable.{start-block-length}
 use Rattle.receiver_block_bytes.specs.BlockByte.{isTaken}
@@ -18,7 +19,7 @@ use Rattle.receiver_block_bytes.proofs.byte.is_taken.Statement.{stateme
 use Rattle.receiver_block_bytes.proofs.byte.is_taken.Tie as tie
 
 module _ (k : ℕ) (h : Header) (i b : ℕ) {long : ℕ} (size : long ≡ blockLength k) where
-  outside : (ltb i 3 || leb long i) ≡ true → false ≡ isTaken k h i b
+  outside : (ltb i 3 || leb long i) ≡ true → false ≡ isTaken k h noDigits i b
   unfolding isTaken
   outside t =
       ⊎-elim (λ low. simp (lt-leb 3 i (ltb-true i 3 low)))
@@ -30,21 +31,21 @@ module _ (k : ℕ) (h : Header) (i b : ℕ) {long : ℕ} (size : long ≡ blockL
       let (low, high) = neither (ltb i 3) (leb long i) t in
       (ltb-false i 3 low, omega (arith, size, leb-false long i high))
 
-  by-rule : (ltb i 3 || leb long i) ≡ false → isTaken k h i b ≡ takesByte k h i b
+  by-rule : (ltb i 3 || leb long i) ≡ false → isTaken k h noDigits i b ≡ takesByte k h noDigits i b
   unfolding isTaken
   by-rule t = simp (le-leb 3 i (inside t .0), lt-ltb i (blockLength k) (inside t .1))
 
-  start-rule : {r : Bool} → (ltb i 3 || leb long i) ≡ false → isStartKind k ≡ true → r ≡ startTakes h i b → r ≡ isTaken k h i b
+  start-rule : {r : Bool} → (ltb i 3 || leb long i) ≡ false → isStartKind k ≡ true → r ≡ startTakes h noDigits i b → r ≡ isTaken k h noDigits i b
   unfolding takesByte
   start-rule t s q = q ∙ sym (by-rule t ∙ rw s)
 
   end-rule : {r : Bool} → (ltb i 3 || leb long i) ≡ false → isStartKind k ≡ false → isEndKind k ≡ true
-      → r ≡ endTakes (h .radars) i b → r ≡ isTaken k h i b
+      → r ≡ endTakes (h .radars) i b → r ≡ isTaken k h noDigits i b
   unfolding takesByte
   end-rule t s e q = q ∙ sym (by-rule t ∙ rw (s, e))
 
   data-rule : {r : Bool} {p : ℕ} → (ltb i 3 || leb long i) ≡ false → isStartKind k ≡ false → isEndKind k ≡ false
-      → p ≡ partOf k → r ≡ isPayloadByte p b → r ≡ isTaken k h i b
+      → p ≡ partOf k → r ≡ isPayloadByte p b → r ≡ isTaken k h noDigits i b
   unfolding takesByte
   data-rule t s e p q = q ∙ rw p (sym (by-rule t ∙ rw (s, e)))
 
@@ -56,7 +57,8 @@ start-takes-requires c κs =
     let test = c .before .before in
     let a = test .before .before .args in
     let (low, high) = inside (a .kind) (a .header) (a .i) (a .b) (test .before .block-length .ensures) (test .if1 .left) in
-    (low, omega (arith, high, start-block-length _ (sym (c .before .is-start-kind .ensures) ∙ c .if2 .taken)))
+    let s = sym (c .before .is-start-kind .ensures) ∙ c .if2 .taken in
+    ((low, omega (arith, high, start-block-length _ s)), test .before .before .pre s)
 
 returns-2 : tie.Need-returns-2
 returns-2 c =

@@ -7,33 +7,34 @@ use lib.Dec.{eqb, leb}
 use borrow.Author.Needs.{needs}
 use Rattle.text.specs.StartBlock.{modeOf, hasMode, isClockByte, isRadarCode}
 use Rattle.text.specs.declared.header.Header.{Header}
+use Rattle.receiver_spec.specs.State.{noDigits}
 use Rattle.receiver_spec.specs.Contents.{startTakes}
 use Rattle.receiver_block_bytes.proofs.start.start_takes.Statement.{statement}
 use Rattle.receiver_block_bytes.proofs.start.start_takes.Tie as tie
 
 -- the rule of byte i, by i
 module _ (h : Header) (i b : ℕ) where
-  at-3 : i ≡ 3 → eqb b 0 ≡ startTakes h i b
+  at-3 : i ≡ 3 → eqb b 0 ≡ startTakes h noDigits i b
   unfolding startTakes
   at-3 p = rw p
 
-  at-4 : i ≡ 4 → true ≡ startTakes h i b
+  at-4 : i ≡ 4 → true ≡ startTakes h noDigits i b
   unfolding startTakes
   at-4 p = rw p
 
-  at-5 : {m : ℕ} → i ≡ 5 → m ≡ modeOf b → not (eqb m 0) ≡ startTakes h i b
+  at-5 : {m : ℕ} → i ≡ 5 → m ≡ modeOf b → not (eqb m 0) ≡ startTakes h noDigits i b
   unfolding startTakes hasMode
   at-5 p q = rw (p, q)
 
-  at-6 : i ≡ 6 → leb b 0x7F ≡ startTakes h i b
+  at-6 : i ≡ 6 → leb b 0x7F ≡ startTakes h noDigits i b
   unfolding startTakes isClockByte
   at-6 p = rw p
 
-  at-7 : i ≡ 7 → leb b 0x7F ≡ startTakes h i b
+  at-7 : i ≡ 7 → leb b 0x7F ≡ startTakes h noDigits i b
   unfolding startTakes isClockByte
   at-7 p = rw p
 
-  at-24 : {r : Bool} → i ≡ 24 → r ≡ isRadarCode b → r ≡ startTakes h i b
+  at-24 : {r : Bool} → i ≡ 24 → r ≡ isRadarCode b → r ≡ startTakes h noDigits i b
   unfolding startTakes
   at-24 p q = q ∙ rw p
 
@@ -41,7 +42,7 @@ later-takes-requires : tie.Need-later-takes-requires
 later-takes-requires c κs =
     let r = c .match .rest in
     let pre = c .before .pre in
-    ((omega (arith, pre .0, r .0 .0 .0 .0 .0 .1, r .0 .0 .0 .0 .1, r .0 .0 .0 .1, r .0 .0 .1, r .0 .1), pre .1), r .1)
+    ((omega (arith, pre .0 .0, r .0 .0 .0 .0 .0 .1, r .0 .0 .0 .0 .1, r .0 .0 .0 .1, r .0 .0 .1, r .0 .1), pre .0 .1), (pre .1, r .1))
 
 pub start-takes-spec : {M : Type 1} → statement M
 start-takes-spec =

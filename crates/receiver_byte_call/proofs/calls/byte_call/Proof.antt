@@ -36,13 +36,13 @@ taken s g b h long possible =
 
 -- a payload byte, under the names that the code has for the state after it
 entered :
-    (s : State) (g : List ℕ) (b : ℕ) {t : State} {seen : ℕ} → b < 256 → length g ≡ gridLength → isPayloadHere (s .frame) (s .marks) b ≡ true
+    (s : State) (g : List ℕ) (b : ℕ) {t : State} {seen : ℕ} → b < 256 → length g ≡ gridLength → isPayloadHere (s .frame) (s .marks) (s .digits) b ≡ true
     → seen ≡ pushSeen (s .seen) b → t ≡ advancedState s (s .frame .place + 1) (s .frame .check ⊕ b) seen 5
     → (returned (record { state = t; answer = Quiet; count = 1 }) (set g (2000 * (s .frame .due - 1) + (s .frame .place - 3)) b) ≡ byteCall (stateOf s) g b)
     × (t .seen ≡ seenAfter (s .seen) (b ∷ []))
 unfolding appliedTo seenAfter advancedState
 entered s g b h long here m e =
-    let has = payload-byte-has (s .frame) (s .marks) b here in
+    let has = payload-byte-has (s .frame) (s .marks) (s .digits) b here in
     rw (e, m) (
       subst (λ (d : Decision). returned (record { state = d .next; answer = d .answer; count = 1 }) (appliedTo g (d .effect) b) ≡ byteCall (stateOf s) g b)
           (decide-here s b has) (taken s g b h long (possible-here s b has)),
@@ -55,37 +55,37 @@ returns c = rw (c .refused .ensures) (simp (ne-eqb _ _ (c .before .if1 .taken)),
 
 sub-grid : tie.Need-sub-grid
 sub-grid c =
-    let start = c .before .before .before .before .before .before in
-    let has = payload-byte-has (start .args .state .frame) (start .args .state .marks) (start .args .b) (sym (c .before .before .is-payload-here .ensures) ∙ c .before .if2 .taken) in
+    let start = c .before .before .before .before .before .before .before in
+    let has = payload-byte-has (start .args .state .frame) (start .args .state .marks) (start .args .state .digits) (start .args .b) (sym (c .before .before .is-payload-here .ensures) ∙ c .before .if2 .taken) in
     omega (arith, has .begun)
 
 sub-grid-2 : tie.Need-sub-grid-2
 sub-grid-2 c =
-    let start = c .before .before .before .before .before .before .before in
-    let has = payload-byte-has (start .args .state .frame) (start .args .state .marks) (start .args .b) (sym (c .before .before .before .is-payload-here .ensures) ∙ c .before .before .if2 .taken) in
+    let start = c .before .before .before .before .before .before .before .before in
+    let has = payload-byte-has (start .args .state .frame) (start .args .state .marks) (start .args .state .digits) (start .args .b) (sym (c .before .before .before .is-payload-here .ensures) ∙ c .before .before .if2 .taken) in
     omega (arith, has .past)
 
 slice-write-grid : tie.Need-slice-write-grid
 slice-write-grid c =
     let judged = c .before .before .before in
-    let a = judged .before .before .before .before .args in
-    let has = payload-byte-has (a .state .frame) (a .state .marks) (a .b) (sym (judged .is-payload-here .ensures) ∙ c .before .before .if2 .taken) in
-    omega (arith, has .begun, has .ten, has .past, short-here (a .state .frame) (a .state .marks) (a .b) has, judged .before .before .if1 .left)
+    let a = judged .before .before .before .before .before .args in
+    let has = payload-byte-has (a .state .frame) (a .state .marks) (a .state .digits) (a .b) (sym (judged .is-payload-here .ensures) ∙ c .before .before .if2 .taken) in
+    omega (arith, has .begun, has .ten, has .past, short-here (a .state .frame) (a .state .marks) (a .state .digits) (a .b) has, judged .before .before .before .if1 .left)
 
 add-advanced-state : tie.Need-add-advanced-state
 add-advanced-state c =
     let judged = c .before .before .before .before in
-    let a = judged .before .before .before .before .args in
-    let has = payload-byte-has (a .state .frame) (a .state .marks) (a .b) (sym (judged .is-payload-here .ensures) ∙ c .before .before .before .if2 .taken) in
-    omega (arith, short-here (a .state .frame) (a .state .marks) (a .b) has)
+    let a = judged .before .before .before .before .before .args in
+    let has = payload-byte-has (a .state .frame) (a .state .marks) (a .state .digits) (a .b) (sym (judged .is-payload-here .ensures) ∙ c .before .before .before .if2 .taken) in
+    omega (arith, short-here (a .state .frame) (a .state .marks) (a .state .digits) (a .b) has)
 
 returns-2 : tie.Need-returns-2
 unfolding _⊕_
 returns-2 c =
     let test = c .before .before .before .before .before .before in
     let judged = test .before in
-    let a = judged .before .before .before .before .args in
-    entered (a .state) (a .grid .now) (a .b) (search needs) (judged .before .before .if1 .left) (sym (judged .is-payload-here .ensures) ∙ test .if2 .taken)
+    let a = judged .before .before .before .before .before .args in
+    entered (a .state) (a .grid .now) (a .b) (search needs) (judged .before .before .before .if1 .left) (sym (judged .is-payload-here .ensures) ∙ test .if2 .taken)
     (c .before .pushed .ensures) (c .advanced-state .ensures)
 
 returns-3 : tie.Need-returns-3
@@ -93,7 +93,7 @@ unfolding returned byteCall replyOf seenAfter
 returns-3 c =
     rw (c .refused2 .ensures) (
       simp (
-        eq-eqb _ _ (c .before .before .before .before .before .before .if1 .left),
+        eq-eqb _ _ (c .before .before .before .before .before .before .before .if1 .left),
         ap not (sym (c .before .before .is-possible .ensures)) ∙ c .before .if3 .taken,
       ),
       refl,
@@ -104,7 +104,7 @@ unfolding seenAfter
 returns-4 c =
     let apply = c .before .before .before in
     let judged = apply .before .before .before in
-    let long = judged .before .before .before .before .before in
+    let long = judged .before .before .before .before .before .before in
     let a = long .before .before .args in
     let d = apply .before .before .decide .ensures in
     let possible = not-false _ (ap not (sym (judged .before .is-possible .ensures)) ∙ judged .if3 .left) in (

@@ -33,7 +33,7 @@ returns-6 c = simp (← c .before .before .kind-of .ensures, ne-eqb _ _ (c .if6 
 returns-7 : tie.Need-returns-7
 unfolding isPayloadHere
 returns-7 c =
-    let sixth = c .before .before .before .before in
+    let sixth = c .before .before .before .before .before in
     let fifth = sixth .before .before .before in
     let fourth = fifth .before .before .before in
     let third = fourth .before .before in
@@ -47,9 +47,10 @@ returns-7 c =
       lt-ltb _ _ (fifth .if5 .left),
       ← sixth .before .before .kind-of .ensures,
       eq-eqb _ _ (sixth .if6 .left),
-      c .before .before .before .is-kind .ensures,
-      c .before .before .is-picture-code .ensures,
-      c .before .are-marks .ensures,
+      c .before .before .before .before .is-kind .ensures,
+      c .before .before .before .is-picture-code .ensures,
+      c .before .before .are-marks .ensures,
+      c .before .none-waits .ensures,
       c .is-payload-byte .ensures,
     )
 
@@ -65,6 +66,7 @@ is-payload-here-spec =
     returns-5
     (λ c κs. search needs)
     returns-6
+    (λ c κs. search needs)
     (λ c κs. search needs)
     (λ c κs. search needs)
     (λ c κs. search needs)

@@ -48,7 +48,7 @@ stretch-long c =
 
 returns-3 : tie.Need-returns-3
 returns-3 c =
-    let test = c .before .before .before in
+    let test = c .before .before .before .before in
     let read = test .before .before .before .before in
     let sum = read .before .before in
     let due = sum .before in
@@ -57,8 +57,9 @@ returns-3 c =
     let known = gap .before .before .before .before .before .before in
     let start = known .before in
     let a = start .args in
-    end-on (a .s) (a .bytes .now) (gap .is-gap .ensures) (kind .kind-of .ensures) (due .if1 .left) (sum .check-byte .ensures) (read .read-end .ensures) (test .if2 .left)
-    (search (needs, start .good .0 .1 .1 .1 .1 .1 .0)) (start .pre .0) (start .pre .1 .0) (λ j. omega (arith, known .shared-slice-known .given j)) (start .pre .1 .1) (c .seen-behind .ensures)
+    rw (c .with-modes .ensures)
+    (end-on (a .s) (a .bytes .now) (gap .is-gap .ensures) (kind .kind-of .ensures) (due .if1 .left) (sum .check-byte .ensures) (read .read-end .ensures) (test .if2 .left)
+    (search (needs, start .good .0 .1 .1 .1 .1 .1 .0)) (start .pre .0) (start .pre .1 .0) (λ j. omega (arith, known .shared-slice-known .given j)) (start .pre .1 .1) (c .before .seen-behind .ensures))
 
 pub end-ahead-spec : {M : Type 1} → statement M
 end-ahead-spec =
@@ -76,5 +77,6 @@ end-ahead-spec =
     (λ c. search needs)
     returns-2
     stretch-long
+    (λ c κs. search needs)
     (λ c κs. search needs)
     returns-3)

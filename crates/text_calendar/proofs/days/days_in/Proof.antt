@@ -4,7 +4,7 @@ use mathlib.Core.Bool.{false}
 use mathlib.Core.List.{[], _∷_}
 use borrow.Author.Needs.{needs}
 use borrow.Author.Tests.{eq-eqb, ne-eqb}
-use Rattle.text.specs.StartBlock.{daysIn}
+use Rattle.text_calendar_spec.specs.Calendar.{daysIn}
 use Rattle.general_laws.proofs.Tests.{either-in}
 use Rattle.text_calendar.proofs.days.days_in.Statement.{statement}
 use Rattle.text_calendar.proofs.days.days_in.Tie as tie

@@ -1,6 +1,6 @@
 -- The test is the definition. Assumes nothing.
 use mathlib.Core.Path.{refl}
-use Rattle.text.specs.StartBlock.{isLeapYear}
+use Rattle.text_calendar_spec.specs.Calendar.{isLeapYear}
 use Rattle.text_calendar.proofs.days.is_leap_year.Statement.{statement}
 use Rattle.text_calendar.proofs.days.is_leap_year.Tie as tie
 

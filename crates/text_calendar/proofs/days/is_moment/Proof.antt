@@ -3,7 +3,7 @@ use mathlib.Core.Bool.{true}
 use mathlib.Core.List.{[], _∷_}
 use lib.Dec.{leb}
 use borrow.Author.Needs.{needs}
-use Rattle.text.specs.StartBlock.{daysIn, isMoment}
+use Rattle.text_calendar_spec.specs.Calendar.{daysIn, isMoment}
 use Rattle.general_laws.proofs.Tests.{both-all}
 use Rattle.text_calendar.proofs.days.is_moment.Statement.{statement}
 use Rattle.text_calendar.proofs.days.is_moment.Tie as tie

@@ -11,11 +11,11 @@ use lib.Seq.{sets, length-sets}
 use borrow.Author.Needs.{needs}
 use borrow.Author.Tests.{leb-true, not-true, not-false}
 use borrow.Rule.Slice.PartAt.{part-to-end}
-use Rattle.general_laws.specs.Bytes.{every}
+use Rattle.text_calendar_spec.specs.Minutes.{isMinute}
 use Rattle.text.specs.Text.{textOf}
 use Rattle.text.specs.Pictures.{isPictureCode}
 use Rattle.text.specs.Kinds.{kindOf, dataTexts, partLength}
-use Rattle.text.specs.StartBlock.{isTime, isRadarList}
+use Rattle.text.specs.StartBlock.{isRadarList}
 use Rattle.text.specs.Part.{textsOf, partBytes}
 use Rattle.text.specs.WriterInput.{isWriterHeader, areModesFor, isWriterInput}
 use Rattle.text.specs.declared.header.WriterHeader.{WriterHeader}
@@ -27,11 +27,11 @@ use Rattle.writer.proofs.part.write_taken.Statement.{statement}
 use Rattle.writer.proofs.part.write_taken.Tie as tie
 
 -- what a start block's contents ask of a header
-digits : (h : WriterHeader) (modes : List ℕ) → isWriterInput h modes ≡ true → (every (λ d. leb d 9) (h .time) ≡ true) × (h .clock ≤ 16383)
-unfolding isWriterInput isWriterHeader isTime
-digits h modes t =
-    let rules = rule-at (isPictureCode (h .picture) ∷ leb (h .clock) 16383 ∷ isTime (h .time) ∷ isRadarList (h .radars) ∷ []) (and-split (isWriterHeader h) (areModesFor (h .radars) modes) t .0) in
-    (and-split (every (λ d. leb d 9) (h .time)) _ (rules 2) .0, leb-true (h .clock) 16383 (rules 1))
+asked : (h : WriterHeader) (modes : List ℕ) → isWriterInput h modes ≡ true → (isMinute (h .minute) ≡ true) × (h .clock ≤ 16383)
+unfolding isWriterInput isWriterHeader
+asked h modes t =
+    let rules = rule-at (isPictureCode (h .picture) ∷ leb (h .clock) 16383 ∷ isMinute (h .minute) ∷ isRadarList (h .radars) ∷ []) (and-split (isWriterHeader h) (areModesFor (h .radars) modes) t .0) in
+    (rules 2, leb-true (h .clock) 16383 (rules 1))
 
 module _ (output first : List ℕ) (part picture : ℕ) (payload : List ℕ) (noEcho : Bool) {now : List ℕ} where
   -- with data texts, and with NO ECHO
@@ -78,7 +78,7 @@ joined-long c =
 start-contents-requires : tie.Need-start-contents-requires
 start-contents-requires c κs =
     let start = c .before .before in
-    digits (start .args .header) (start .args .modes) (start .pre .1 .0)
+    asked (start .args .header) (start .args .modes) (start .pre .1 .0)
 
 write-text-requires : tie.Need-write-text-requires
 write-text-requires c κs =
