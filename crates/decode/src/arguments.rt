@@ -9,7 +9,7 @@ use text_code_words::words::code_of;
 use text_codes::table::is_picture_code;
 
 // The marks that the arguments ask for, and whether each argument is a listed code
-#[derive(Drop)]
+#[derive(Clone, Copy)]
 pub struct Asked {
     pub marks: u32,
     pub right: bool,

@@ -31,6 +31,8 @@
 //
 // Codes and quality values are hexadecimal, other numbers decimal. What must be printed for the
 // sample, the file stdout, is made by tests/decode.py from the model of 01.
+#![tactic(auto)]
+
 mod arguments; // the pictures to mark
 mod counts; // how many meshes are at a level
 mod heading; // the line of the marked pictures
@@ -48,7 +50,7 @@ use receiver_state::state::{State, fresh};
 
 // The receiver after some bytes, how many they were, whether all lines so far are written, and
 // whether to go on
-#[derive(Drop)]
+#[derive(Clone, Copy)]
 struct FeedResult {
     state: State,
     total: u64,

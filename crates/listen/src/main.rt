@@ -1,5 +1,7 @@
 // Listens to the stream on standard input, to its end, and prints a line for each answer but 0:
 // bytes read so far, a space, the answer.
+#![tactic(auto)]
+
 ghost use Rattle.std.specs.Prelude.{◌≡◌, ◌+◌, ◌≤◌, length};
 
 use libc::{STDERR_FILENO, STDIN_FILENO, STDOUT_FILENO};
@@ -9,7 +11,7 @@ use receiver_state::answer::number_of;
 use receiver_state::state::{State, fresh};
 
 // The receiver after some bytes, how many they were, and whether to go on
-#[derive(Drop)]
+#[derive(Clone, Copy)]
 struct FeedResult {
     state: State,
     total: u64,
@@ -17,7 +19,7 @@ struct FeedResult {
 }
 
 // How many bytes wait in the output, and whether all others were written
-#[derive(Drop)]
+#[derive(Clone, Copy)]
 struct Waiting {
     used: usize,
     written: bool,

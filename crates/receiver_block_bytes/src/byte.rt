@@ -18,7 +18,7 @@ use text_lengths::block::block_length;
 
 // What a block byte leaves: whether it keeps its rule, header, modes and waiting digits with it, and
 // its effect on the grid. Where it does not, header, modes and digits are as they were.
-#[derive(Drop)]
+#[derive(Clone, Copy)]
 pub struct EnterResult {
     pub kept: bool,
     pub header: Header,

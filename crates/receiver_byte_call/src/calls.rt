@@ -20,7 +20,7 @@ use receiver_state_ranges::ranges::is_possible;
 use receiver_step::decide::decide;
 
 // What a call returns: the state, the answer and how many bytes it took
-#[derive(Drop)]
+#[derive(Clone, Copy)]
 pub struct CallResult {
     pub state: State,
     pub answer: Answer,

@@ -9,7 +9,7 @@ use receiver_state::state::{Frame, State};
 use text::header::Header;
 
 // What a byte does: the next state, its answer, and its effect on the grid.
-#[derive(Drop)]
+#[derive(Clone, Copy)]
 pub struct Decision {
     pub next: State,
     pub answer: Answer,

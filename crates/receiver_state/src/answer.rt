@@ -5,7 +5,7 @@ ghost use Rattle.receiver_state.specs.Meaning.{number_of};
 // A call's answer, or its refusal. 01's numbers: 0 quiet, 1 part begun, 2 data text taken, 3
 // complete, which tells the part's number (1 intensity, 2 echo top, 3 quality); 11 to 22 and 51
 // (Request 101), the row that dropped; refusals 1 and 2.
-#[derive(Drop)]
+#[derive(Clone, Copy)]
 pub enum Answer {
     Quiet,
     Begun,

@@ -4,7 +4,7 @@ ghost use Rattle.text.specs.Part.{zeros};
 ghost use Rattle.receiver_state.specs.Meaning.{applied_to};
 
 // What a byte does to the grid: nothing, clear it, or enter at a place.
-#[derive(Drop)]
+#[derive(Clone, Copy)]
 pub enum Effect {
     Keep,
     Clear,

@@ -9,7 +9,7 @@ use text::header::Header;
 
 // Where the receiver stands: place, kind and picture code of the text under way, the part open and
 // its due text, the running check byte, and how many of the bytes seen there are.
-#[derive(Drop)]
+#[derive(Clone, Copy)]
 pub struct Frame {
     pub place: u16,
     pub kind: u8,
@@ -23,7 +23,7 @@ pub struct Frame {
 // 01's state. The last bytes seen are the low bytes of one number, the newest lowest. The digits of the
 // time wait here until byte 23 of a start text (Request 111). The marks are one number too, with `C0`
 // at bit 0 (Request 101).
-#[derive(Drop)]
+#[derive(Clone, Copy)]
 pub struct State {
     pub seen: u64,
     pub frame: Frame,

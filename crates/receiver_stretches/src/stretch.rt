@@ -2,7 +2,7 @@
 use receiver_state::state::State;
 
 // How many bytes a stretch has, each answered 0, and the state behind them
-#[derive(Drop)]
+#[derive(Clone, Copy)]
 pub struct StretchResult {
     pub state: State,
     pub at: usize,

@@ -4,6 +4,8 @@
 // second implementation in tests/second.
 //
 // The program names no library of ours but `terminal`, as a customer's does.
+#![tactic(auto)]
+
 ghost use Rattle.std.specs.Prelude.{◌≤◌};
 
 use libc::{STDERR_FILENO, STDIN_FILENO, STDOUT_FILENO};
@@ -13,7 +15,7 @@ use terminal::{
 };
 
 // The receiver after some bytes, and whether to go on
-#[derive(Drop)]
+#[derive(Clone, Copy)]
 struct FeedResult {
     state: State,
     goes_on: bool,

@@ -8,7 +8,7 @@ use receiver_state_ranges::ranges::is_possible;
 use text_lengths::block::block_length;
 
 // How many bytes are left, or a refusal: 2 for an impossible state
-#[derive(Drop)]
+#[derive(Clone, Copy)]
 pub enum BytesLeftResult {
     Bytes(u16),
     Refused(u8),

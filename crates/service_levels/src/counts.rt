@@ -8,7 +8,7 @@ ghost use Rattle.service_levels.specs.Meshes.{count_to, has_no_level_15, meshes}
 use text::bytes::are_zero;
 
 // A byte split in two. Notice 49, 4(1)(1-1)(d)(ウ)
-#[derive(Drop)]
+#[derive(Clone, Copy)]
 struct Halves {
     odd: u8, // the high half, left in its place: 16 times the level of the odd mesh
     even: u8, // the low half: the level of the even mesh

@@ -6,7 +6,7 @@ ghost use Rattle.service_overlay.specs.Returned.{outcome_of};
 use text::payload::are_payload_bytes;
 
 // Done, or a refusal: 42 or 43
-#[derive(Drop)]
+#[derive(Clone, Copy)]
 pub enum OverlayResult {
     Done,
     Refused(u8),

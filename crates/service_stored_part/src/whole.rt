@@ -16,7 +16,7 @@ use text_kinds::table::part_of_kind;
 use text_lengths::part::part_length;
 
 // The state behind all bytes, and the last byte's answer
-#[derive(Drop)]
+#[derive(Clone, Copy)]
 struct FeedResult {
     state: State,
     answer: u8,

@@ -1,6 +1,7 @@
 // The one crate that a customer's program names: it passes on what such a program calls, and has no
 // code of its own. Every function answers for every value of its parameters (01, demand 1); its
 // contract, an equation with a definition, stands where it is declared.
+#![tactic(auto)]
 
 // The receiver (01, "The receiver"): the state and the fresh one, its marks (Request 101), a grid all
 // 0, the byte call and the slice call with what they return, and 01's numbers of answers

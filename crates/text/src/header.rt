@@ -4,7 +4,7 @@
 // minutes from 1 January 2000, 00:00 (Request 111), the radar codes and then 0, the clock, and the
 // picture code.
 // Notice 49, 4(1)(1-1)(c)(イ)
-#[derive(Drop)]
+#[derive(Clone, Copy)]
 pub struct WriterHeader {
     pub minute: i64,
     pub radars: [u8; 8],
@@ -14,7 +14,7 @@ pub struct WriterHeader {
 
 // A part's header (01): what the writer takes, the mode of status 2 and NO ECHO.
 // Notice 49, 4(1)(1-1)(c)(イ)
-#[derive(Drop)]
+#[derive(Clone, Copy)]
 pub struct Header {
     pub minute: i64,
     pub radars: [u8; 8],

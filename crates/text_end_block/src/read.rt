@@ -10,7 +10,7 @@ use text_radars::places::is_mode_byte;
 use text_status::status::mode_of;
 
 // Whether an end block keeps its rules, and its modes, which are all 0 where it does not
-#[derive(Drop)]
+#[derive(Clone, Copy)]
 pub struct EndRead {
     pub kept: bool,
     pub modes: [u8; 8],

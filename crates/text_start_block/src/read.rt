@@ -14,7 +14,7 @@ use text_radars::places::is_radar_list;
 use text_status::status::{clock_of, mode_of, no_echo_of};
 
 // Whether a start block keeps its rules, and its header, which is all 0 where it does not
-#[derive(Drop)]
+#[derive(Clone, Copy)]
 pub struct StartRead {
     pub kept: bool,
     pub header: Header,

@@ -1,6 +1,8 @@
 // Gives the stream on standard input, to its end, to the receiver byte by byte, and prints a line
 // for each answer but 0 that came: the answer, a space, how many bytes had it. It stands beside the
 // listening program, which uses the slice call, so that the byte call can be timed.
+#![tactic(auto)]
+
 ghost use Rattle.std.specs.Prelude.{◌≤◌, length};
 
 use libc::{STDIN_FILENO, STDOUT_FILENO};
@@ -10,7 +12,7 @@ use receiver_state::answer::number_of;
 use receiver_state::state::{State, fresh};
 
 // The receiver after some bytes, and whether the input goes on
-#[derive(Drop)]
+#[derive(Clone, Copy)]
 struct FeedResult {
     state: State,
     goes_on: bool,

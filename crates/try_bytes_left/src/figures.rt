@@ -8,7 +8,7 @@ const REFUSED: u16 = 65535;
 
 // After some bytes: how many these are, bytes left in the text under way, and the sum over what was
 // left after each of them
-#[derive(Drop)]
+#[derive(Clone, Copy)]
 pub struct Figures {
     pub total: u64,
     pub left: u16,

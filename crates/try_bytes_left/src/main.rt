@@ -8,6 +8,8 @@
 //   TOTAL LEFT SUM                   when the input has ended: the bytes read, and bytes left
 // SUM is over the figure after each byte so far, so that those tell too that have no line: Adler-32,
 // begun at 0, of the figures as two bytes each, high byte first.
+#![tactic(auto)]
+
 mod figures;
 mod lines;
 
@@ -20,7 +22,7 @@ use receiver_state::answer::number_of;
 use receiver_state::state::{State, fresh};
 
 // The receiver and the figures after some bytes
-#[derive(Drop)]
+#[derive(Clone, Copy)]
 struct Fed {
     state: State,
     figures: Figures,

@@ -20,6 +20,8 @@
 //   refused CALL NUMBER COUNT SEEN PLACE KIND PICTURE PART DUE CHECK SEEN-COUNT MARKS DIGITS CONTENTS
 // Of the last, CALL is 1 for the byte call and 2 for the slice call; what follows COUNT is the state
 // returned and the grid left. Where a call is not refused, the line begins with `answered`.
+#![tactic(auto)]
+
 mod digits;
 mod held;
 mod print;

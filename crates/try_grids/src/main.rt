@@ -3,6 +3,8 @@
 // of all grids so far laid over each other, how many are at or above level 1. A grid that is refused
 // has its refusal in place of each number, and is not laid over the others. Fewer bytes at the end
 // are no grid.
+#![tactic(auto)]
+
 use libc::{STDIN_FILENO, STDOUT_FILENO};
 use service_levels::meshes::meshes_from;
 use service_levels::result::MeshResult;

@@ -19,6 +19,8 @@
 //   end MARKS SET MARKS SET
 //                          marks, and how many are counted, of the slice calls' last state and of the
 //                          byte calls' last state
+#![tactic(auto)]
+
 mod held;
 mod out;
 mod runs;

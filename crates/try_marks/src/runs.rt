@@ -9,7 +9,7 @@ use receiver_state::answer::number_of;
 use receiver_state::state::State;
 
 // The last state, and how many bytes wait in the output
-#[derive(Drop)]
+#[derive(Clone, Copy)]
 pub struct RunResult {
     pub state: State,
     pub used: usize,

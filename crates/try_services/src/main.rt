@@ -23,6 +23,8 @@
 // Where a service refuses, `refused` and the row of 01 stand in place of the last word and its
 // number. In an overlay's line they stand in place of `laid`, and the sum is that of the third grid
 // as it was.
+#![tactic(auto)]
+
 mod clocks;
 mod left;
 mod levels;

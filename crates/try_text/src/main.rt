@@ -6,6 +6,8 @@
 //
 // Requests and lines are made by tests/try_text.py from the model of 01; what each byte asks
 // stands there.
+#![tactic(auto)]
+
 mod answers;
 mod arguments;
 mod print;

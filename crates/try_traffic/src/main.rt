@@ -10,6 +10,8 @@
 //                          after answer 3: the minute, a signed count from 1 January 2000, 00:00
 //                          (Request 111), 8 radars, 8 modes
 //   grid RUNS              after that: all bytes of the grid, as COUNTxBYTE for each run of equal ones
+#![tactic(auto)]
+
 mod held;
 mod out;
 mod runs;

@@ -10,14 +10,14 @@ use receiver_state::answer::number_of;
 use receiver_state::state::State;
 
 // The byte call's state, and how many bytes wait in the output
-#[derive(Drop)]
+#[derive(Clone, Copy)]
 struct ByteCallsResult {
     state: State,
     used: usize,
 }
 
 // Both states after a slice call, how many bytes it took, and how many wait in the output
-#[derive(Drop)]
+#[derive(Clone, Copy)]
 struct BothResult {
     sliced: State,
     single: State,
@@ -26,7 +26,7 @@ struct BothResult {
 }
 
 // Both states, how many bytes they have taken, and whether the input goes on
-#[derive(Drop)]
+#[derive(Clone, Copy)]
 pub struct FeedResult {
     pub sliced: State,
     pub single: State,

@@ -12,6 +12,8 @@
 // part, and all bytes at a refusal, are still `AA`.
 //
 // Calls and lines are made by tests/try_writer.py from the model of 01.
+#![tactic(auto)]
+
 mod arguments;
 mod call;
 mod held;

@@ -23,7 +23,7 @@ use text_kinds::table::kind_of;
 use text_lengths::part::part_length;
 
 // The writer's answer: how many bytes it wrote, or a refusal, 31 to 34
-#[derive(Drop)]
+#[derive(Clone, Copy)]
 pub enum WriteResult {
     Bytes(usize),
     Refused(u8),

@@ -1,0 +1,18 @@
+-- The bytes so far are in the running check byte. Assumes nothing.
+use mathlib.Core.Path.{◌≡◌, sym, ap, ◌∙◌}
+use Prim.Native.Nat.{◌-◌, ◌≤◌}
+use native.Mathlib.Omega.{arith}
+use lib.ListN.{length, get_or, take}
+use lib.Seq.{take_all}
+use borrow.Author.Rules.{rules}
+use Rattle.text.specs.Text.{xor_all}
+use Rattle.receiver_spec.specs.Receiver.{◌⊕◌}
+use Rattle.receiver_spec.proofs.Laws.{xor_nil}
+use Rattle.receiver_bytes_seen.proofs.ManyBytes.{check_on}
+use Rattle.receiver_bytes_seen.proofs.behind.check_behind.Given as goal
+
+abbrev pub invariant-loop-i : goal.invariant-loop-i
+invariant-loop-i l = (l.i ≤ length l.bytes) × (l.running ≡ l.check ⊕ xor_all (take l.i l.bytes))
+
+abbrev pub decreases-loop-i : goal.decreases-loop-i
+decreases-loop-i l = length l.bytes - l.i

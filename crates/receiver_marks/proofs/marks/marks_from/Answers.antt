@@ -1,0 +1,14 @@
+-- Assumes nothing.
+use mathlib.Core.Path.{sym, ◌∙◌}
+use borrow.Author.Rules.{rules}
+use borrow.Author.Tests.{not-true, not-false}
+use Rattle.receiver_spec.specs.Marks.{marks_from}
+use Rattle.receiver_marks.proofs.marks.marks_from.Goals as goal
+
+pub returns-then-not-are_marks : goal.returns-then-not-are_marks
+unfolding marks_from
+returns-then-not-are_marks c = simp (sym c.are_marks.ensures ∙ not-true _ c.if-not-are_marks.true)
+
+pub returns : goal.returns
+unfolding marks_from
+returns c = simp (sym c.are_marks.ensures ∙ not-false _ c.if-not-are_marks.false)

@@ -1,0 +1,13 @@
+-- Each way out is a case of the definition. Assumes nothing.
+use borrow.Author.Rules.{rules}
+use borrow.Author.Tests.{eq-eqb, ne_eqb}
+use Rattle.receiver_spec.specs.State.{is_due}
+use Rattle.receiver_state_ranges.proofs.ranges.is_due.Goals as goal
+
+pub returns-then-part-eq0 : goal.returns-then-part-eq0
+unfolding is_due
+returns-then-part-eq0 c = simp (eq-eqb _ _ c.if-part-eq0.taken)
+
+pub returns : goal.returns
+unfolding is_due
+returns c = simp (ne_eqb _ _ c.if-part-eq0.left, c.is_kind.ensures, c.kind_of.ensures)

@@ -1,0 +1,13 @@
+-- Byte by byte, or all dry bytes at once. Assumes nothing.
+use mathlib.Core.Path.{sym, ◌∙◌}
+use native.Mathlib.Omega.{arith}
+use borrow.Author.Rules.{rules}
+use borrow.Author.Tests.{not-false}
+use Rattle.service_levels.proofs.Counting.{dry_bytes}
+use Rattle.service_levels.proofs.counts.count_past_dry.Goals as goal
+
+pub returns : goal.returns
+returns c =
+    let a = c.args in
+    let dry = sym c.are_zero.ensures ∙ not-false c.are_zero.result c.if-not-are_zero.false in
+    sym (dry_bytes a.bytes.now dry a.level (omega arith))

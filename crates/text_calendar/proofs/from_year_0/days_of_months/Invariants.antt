@@ -1,0 +1,14 @@
+-- The months before i are added. Assumes nothing.
+use borrow.Author.Rules.{rules}
+use native.Mathlib.Omega.{arith}
+use mathlib.Core.Path.{◌≡◌, sym, ap, ◌∙◌}
+use Prim.Native.Nat.{◌+◌, ◌-◌, ◌*◌, ◌<◌, ◌≤◌}
+use Rattle.text_calendar_spec.specs.Minutes.{days_of_months}
+use Rattle.text_calendar_spec.proofs.Laws.{month_step, month_most, no_months}
+use Rattle.text_calendar.proofs.from_year_0.days_of_months.Given as goal
+
+abbrev pub invariant-loop-i : goal.invariant-loop-i
+invariant-loop-i l = (l.i ≤ l.count) × (l.days ≡ days_of_months l.year l.i) × (l.days ≤ l.i * 31)
+
+abbrev pub decreases-loop-i : goal.decreases-loop-i
+decreases-loop-i l = l.count - l.i

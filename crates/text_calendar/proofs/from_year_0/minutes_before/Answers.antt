@@ -1,0 +1,16 @@
+-- A day of the years 0000 to 9999, and its minutes. Assumes nothing.
+use borrow.Author.Rules.{rules}
+use native.Mathlib.Omega.{arith}
+use Rattle.text_calendar_spec.specs.Minutes.{minutes_before}
+use Rattle.text_calendar_spec.proofs.Laws.{month_most, InCalendar, in_calendar}
+use Rattle.text_calendar.proofs.from_year_0.minutes_before.Goals as goal
+
+pub day_of-days-requires : goal.day_of-days-requires
+day_of-days-requires c =
+    let a = c.args in
+    let r = in_calendar a.year a.month a.day a.hour a.minute c.requires in
+    (r.year, (r.month_most, (r.month_least, (omega (arith, r.day_most, month_most a.year a.month), r.day_least))))
+
+pub returns : goal.returns
+unfolding minutes_before
+returns c = rw c.day_of-days.ensures

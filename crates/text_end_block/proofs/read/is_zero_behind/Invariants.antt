@@ -1,0 +1,17 @@
+-- What is found so far, with the bytes from i on, says what all the bytes say. Assumes nothing.
+use mathlib.Core.Path.{◌≡◌, refl, sym, ap, ◌∙◌}
+use mathlib.Core.Bool.{◌&&◌, and-true, and_assoc}
+use Prim.Native.Nat.{suc, ◌-◌}
+use native.Mathlib.Numerals.{add-one}
+use native.Mathlib.Omega.{arith}
+use lib.Dec.{eqb}
+use lib.ListN.{length, drop, drop_of_length-le}
+use lib.Seq.{drop-cons}
+use Rattle.general_laws.specs.Bytes.{◌!◌, every}
+use Rattle.text_end_block.proofs.read.is_zero_behind.Given as goal
+
+abbrev pub invariant-loop-i : goal.invariant-loop-i
+invariant-loop-i l = (l.zero && every (λ b. eqb b 0) (drop l.i l.block)) ≡ every (λ b. eqb b 0) (drop 11 l.block)
+
+abbrev pub decreases-loop-i : goal.decreases-loop-i
+decreases-loop-i l = length l.block - l.i
