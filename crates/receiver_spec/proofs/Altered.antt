@@ -176,8 +176,8 @@ module _ (R : Rules) (L : RuleLaws R) where
   under [] w i k q p d x z c (quiet1 n1 (quiet1 n2 (quiet1 n3 quiet0))) hk h3 a b f g =
       let e : long k ≡ i = omega arith in
       subst (λ j. IdleAfter (mk R w j k q p d x c) (closing z)) e
-      (idle_go (take_eor R L w k q p d x c (L.long-3 k hk)) (other 0 tt)
-      (idle_go (bad_check (push w EOR) k q p d (x ⊕ EOR) c z n2 (L.long-3 k hk) (λ t. g (omega arith) (t ∙ ap (λ y. y ⊕ EOR) (sym (xor_nil x))))) (other 20 tt)
+      (idle_go (take_eor R L w k q p d x c (L.long_3 k hk)) (other 0 tt)
+      (idle_go (bad_check (push w EOR) k q p d (x ⊕ EOR) c z n2 (L.long_3 k hk) (λ t. g (omega arith) (t ∙ ap (λ y. y ⊕ EOR) (sym (xor_nil x))))) (other 20 tt)
       (idle_quiet _ blank (quiet1 n3 quiet0))))
   under (y ∷ ys) w i k q p d x z c (quiet1 n qt) hk h3 a b f g =
       by_test (ltb i (long k))
@@ -189,7 +189,7 @@ module _ (R : Rules) (L : RuleLaws R) where
       (λ t. idle_go (bad_byte w i k q p d x c y n h3 l t) (other 18 tt) (idle_quiet _ blank qt)))
       (λ e. let e' : long k ≡ i = omega (arith, ltb-false i (long k) e) in
       subst (λ j. IdleAfter (mk R w j k q p d x c) (y ∷ (ys ++ closing z))) e'
-      (idle_go (bad_eor w k q p d x c y n (L.long-3 k hk) (free_head (f (omega arith)))) (other 19 tt) (idle_quiet _ blank qt)))
+      (idle_go (bad_eor w k q p d x c y n (L.long_3 k hk) (free_head (f (omega arith)))) (other 19 tt) (idle_quiet _ blank qt)))
     where
       free_head : {v u : ℕ} {us : List ℕ} → Free v (u ∷ us) → u ≢ v
       free_head (free1 n r) = n
@@ -221,7 +221,7 @@ module _ (R : Rules) (L : RuleLaws R) where
       by_if Plain (ends_opening m.seen b) (λ _. by_if Plain (eqb m.place 0) (λ _. no_3 tt) (λ _. no_3 tt))
       (λ _. by_if Plain (eqb m.place 0)
       (λ _. by_if Plain (eqb m.part 0) (λ _. no_3 tt) (λ _. by_if Plain (eqb b (due_byte m.seen)) (λ _. no_3 tt) (λ _. no_3 tt)))
-      (λ _. by_if Plain (eqb m.place 1) (λ _. by_if Plain (is_picture b) (λ _. no_3 tt) (λ _. record { unended = L.no-picture b }))
+      (λ _. by_if Plain (eqb m.place 1) (λ _. by_if Plain (is_picture b) (λ _. no_3 tt) (λ _. record { unended = L.no_picture b }))
       (λ _. by_if Plain (eqb m.place 2) (λ _. plain_kind m b)
       (λ _. by_if Plain (ltb m.place (long m.kind)) (λ _. by_if Plain (takes m.kind m.held m.place b) (λ _. no_3 tt) (λ _. no_3 tt))
       (λ _. by_if Plain (eqb m.place (long m.kind)) (λ _. by_if Plain (eqb b EOR) (λ _. no_3 tt) (λ _. no_3 tt))
@@ -264,7 +264,7 @@ module _ (R : Rules) (L : RuleLaws R) where
   -- ---- no opening ends in what is left of a text
 
   body_quiet : {k : ℕ} {c e : Held} {xs : List ℕ} → is_kind k ≡ true → BlockContents R k c 3 xs e → (w : List ℕ) → Quiet w xs
-  body_quiet {k} {c} {e} {xs} hk r w = split (L.fd-places k c e xs hk r)
+  body_quiet {k} {c} {e} {xs} hk r w = split (L.fd_places k c e xs hk r)
     where
       split : Free FD xs ⊎ ((vs : List ℕ) × (xs ≡ 0 ∷ FD ∷ vs) × Free FD vs) → Quiet w xs
       split (inl f) = free_quiet w f
@@ -274,10 +274,10 @@ module _ (R : Rules) (L : RuleLaws R) where
   tail_quiet hk r w z = quiet_append (body_quiet hk r w) (closing_quiet _ z)
 
   altered_quiet : {v k : ℕ} {c e : Held} {xs ys : List ℕ} (q : ℕ) → v ≢ FD → is_kind k ≡ true → is_picture q ≡ true → BlockContents R k c 3 xs e → AlteredTo v xs ys → Quiet (seen_kind q k) ys
-  altered_quiet {v} {k} {c} {e} {xs} {ys} q nv hk hq r a = split (L.fd-places k c e xs hk r)
+  altered_quiet {v} {k} {c} {e} {xs} {ys} q nv hk hq r a = split (L.fd_places k c e xs hk r)
     where
       not_syn : q ≢ SYN
-      not_syn e = never L.syn-picture (sym (ap is_picture e) ∙ hq)
+      not_syn e = never L.syn_picture (sym (ap is_picture e) ∙ hq)
 
       second : {vs us : List ℕ} → Free FD vs → AlteredTo v (0 ∷ FD ∷ vs) us → Quiet (seen_kind q k) us
       second f (here n) = quiet1 (only_fd (seen_kind q k) v nv) (quiet1 (differs (v ∷ k ∷ q ∷ FD ∷ STX ∷ []) FD 2 not_syn) (free_quiet _ f))
@@ -316,12 +316,12 @@ module _ (R : Rules) (L : RuleLaws R) where
     eor_move : move R (mk R (pushes (seen_kind q k) xs) (long k) k q p d sum e) EOR
         ≡ answering R 0 (mk R (push (pushes (seen_kind q k) xs) EOR) (suc (long k)) k q p d check_of e)
     eor_move =
-        take_eor R L (pushes (seen_kind q k) xs) k q p d sum e (L.long-3 k hk)
+        take_eor R L (pushes (seen_kind q k) xs) k q p d sum e (L.long_3 k hk)
         ∙ ap (λ x. answering R 0 (mk R (push (pushes (seen_kind q k) xs) EOR) (suc (long k)) k q p d x e)) (checked q k xs)
 
     check_move : move R (mk R (push (pushes (seen_kind q k) xs) EOR) (suc (long k)) k q p d check_of e) check_of
         ≡ answering R 0 (mk R (seen_check R L q k xs) (suc (suc (long k))) k q p d check_of e)
-    check_move = take_check R L (take 4 (pushes (seen_kind q k) xs)) k q p d check_of e (L.long-3 k hk)
+    check_move = take_check R L (take 4 (pushes (seen_kind q k) xs)) k q p d check_of e (L.long_3 k hk)
 
     not_complete_check : NotComplete R (mk R (seen_kind q k) 3 k q p d (check_at3 q k) c) (xs ++ (EOR ∷ check_of ∷ [])) (mk R (seen_check R L q k xs) (suc (suc (long k))) k q p d check_of e)
     not_complete_check = not_complete_append R not_complete_block (go eor_move (other 0 tt) (go check_move (other 0 tt) stop))
@@ -338,7 +338,7 @@ module _ (R : Rules) (L : RuleLaws R) where
       (λ e. idle_quiet w blank (quiet1 e (quiet1 (no_opening _ TPAD tt) quiet0)))
     where
       hit : IdleAfter (lost R seen_control) (FD ∷ TPAD ∷ [])
-      hit = idle_go (take_opening R L 0 0 blank) (other 0 tt) (idle_go (bad_picture 0 0 TPAD blank (λ e. omega arith) L.tpad-picture) (L.no-picture TPAD) (idle_quiet _ blank quiet0))
+      hit = idle_go (take_opening R L 0 0 blank) (other 0 tt) (idle_go (bad_picture 0 0 TPAD blank (λ e. omega arith) L.tpad_picture) (L.no_picture TPAD) (idle_quiet _ blank quiet0))
 
   idle_block : {v k : ℕ} {c e : Held} {xs ys : List ℕ} (q p d : ℕ) → v ≢ FD → is_picture q ≡ true → is_kind k ≡ true → 3 + length xs ≡ long k → BlockContents R k c 3 xs e
       → AlteredTo v (xs ++ closing (check_byte (block R q k xs))) ys → IdleAfter (mk R (seen_kind q k) 3 k q p d (check_at3 q k) c) ys
@@ -352,21 +352,21 @@ module _ (R : Rules) (L : RuleLaws R) where
 
       ends : {us : List ℕ} → AlteredTo v (closing z) us → IdleAfter (mk R w (long k) k q p d (check_at3 q k ⊕ xor_all xs) e) us
       ends (here n) =
-          idle_go (bad_eor w k q p d (check_at3 q k ⊕ xor_all xs) e v (only_fd w v nv) (L.long-3 k hk) (λ f. n (sym f))) (other 19 tt) (two _ _)
+          idle_go (bad_eor w k q p d (check_at3 q k ⊕ xor_all xs) e v (only_fd w v nv) (L.long_3 k hk) (λ f. n (sym f))) (other 19 tt) (two _ _)
       ends (there (here n)) =
           idle_go (eor_move q p d hk l r) (other 0 tt)
-          (idle_go (bad_check (push w EOR) k q p d z e v (only_fd (push w EOR) v nv) (L.long-3 k hk) (λ f. n (sym f))) (other 20 tt)
+          (idle_go (bad_check (push w EOR) k q p d z e v (only_fd (push w EOR) v nv) (L.long_3 k hk) (λ f. n (sym f))) (other 20 tt)
           (idle_quiet _ blank (quiet1 (no_opening _ TPAD tt) quiet0)))
       ends (there (there (here n))) =
           idle_go (eor_move q p d hk l r) (other 0 tt)
           (idle_go (check_move q p d hk l r) (other 0 tt)
-          (idle_go (bad_last (seen_check R L q k xs) k q p d z e v (only_fd (seen_check R L q k xs) v nv) (L.long-3 k hk) (λ f. n (sym f))) (other 21 tt) (idle_quiet _ blank quiet0)))
+          (idle_go (bad_last (seen_check R L q k xs) k q p d z e v (only_fd (seen_check R L q k xs) v nv) (L.long_3 k hk) (λ f. n (sym f))) (other 21 tt) (idle_quiet _ blank quiet0)))
 
       split : ((us : List ℕ) × AlteredTo v xs us × (ys ≡ us ++ closing z)) ⊎ ((us : List ℕ) × AlteredTo v (closing z) us × (ys ≡ xs ++ us))
           → IdleAfter (mk R (seen_kind q k) 3 k q p d (check_at3 q k) c) ys
       split (inl (us, b, f)) =
           rw f
-          (under us (seen_kind q k) 3 k q p d (check_at3 q k) z c (quiet_append (altered_quiet q nv hk hq r b) (closing_quiet _ _)) hk (omega arith) (L.long-3 k hk)
+          (under us (seen_kind q k) 3 k q p d (check_at3 q k) z c (quiet_append (altered_quiet q nv hk hq r b) (closing_quiet _ _)) hk (omega arith) (L.long_3 k hk)
           (omega (arith, altered_length b)) (λ g. absurd (omega (arith, altered_length b)))
           (λ _ g. altered_xor b (cancel_left (check_at3 q k) (xor_all xs) (xor_all us) (cancel_right EOR _ _ (checked q k xs ∙ g)))))
       split (inr (us, b, f)) = rw f (idle_behind (not_complete_block q p d hk l r) (ends b))
@@ -419,14 +419,14 @@ module _ (R : Rules) (L : RuleLaws R) where
       idle_picture role n =
           by_test (is_picture v)
           (λ e. idle_go (take_picture R L p d v c e) (other 0 tt) (kinds role))
-          (λ e. idle_go (bad_picture p d v c nv e) (L.no-picture v)
+          (λ e. idle_go (bad_picture p d v c nv e) (L.no_picture v)
           (idle_quiet (push seen_opening v) blank (quiet1 (only_fd (push seen_opening v) k (kind_not_fd R L k hk)) (quiet_tail role (push (push seen_opening v) k)))))
         where
           kinds : Role p d c q k xs → IdleAfter (mk R (push seen_opening v) 2 0 v p d (FD ⊕ v) c) (k ∷ (xs ++ closing check_byte))
           kinds (is_first o s r) =
               let (a, b, f, na) = take_start R L p d v k c s in
               idle_go f na
-              (under xs (seen_kind v k) 3 k v 0 0 (check_at3 v k) check_byte (begin v b) (quiet_tail role (seen_kind v k)) hk (omega arith) (L.long-3 k hk) (omega arith) (λ g. absurd (omega arith))
+              (under xs (seen_kind v k) 3 k v 0 0 (check_at3 v k) check_byte (begin v b) (quiet_tail role (seen_kind v k)) hk (omega arith) (L.long_3 k hk) (omega arith) (λ g. absurd (omega arith))
               (λ _ g. n (cancel_left FD q v (cancel_right k _ _ (cancel_right (xor_all xs) _ _ (cancel_right EOR _ _ (checked q k xs ∙ g)))))))
           kinds (is_lone o s r) =
               let (a, f, na) = lone_kind p d v k c (kind_not_fd R L k hk) s o in
@@ -442,7 +442,7 @@ module _ (R : Rules) (L : RuleLaws R) where
           (by_test (is_start v)
           (λ e. let (a, b, f, na) = take_start R L p d q v c e in
           idle_go f na
-          (under xs (seen_kind q v) 3 v q 0 0 (check_at3 q v) check_byte (begin q b) (quiet_tail role (seen_kind q v)) (L.start_kind v e) (omega arith) (L.long-3 v (L.start_kind v e))
+          (under xs (seen_kind q v) 3 v q 0 0 (check_at3 q v) check_byte (begin q b) (quiet_tail role (seen_kind q v)) (L.start_kind v e) (omega arith) (L.long_3 v (L.start_kind v e))
           (omega (arith, L.shortest v k e hk)) (λ g. longer role e g)
           (λ _ g. n (cancel_left (FD ⊕ q) k v (cancel_right (xor_all xs) _ _ (cancel_right EOR _ _ (checked q k xs ∙ g)))))))
           (λ e. others role e))
@@ -450,8 +450,8 @@ module _ (R : Rules) (L : RuleLaws R) where
           -- a text that is too long for a start text has payload in the place of its EOR
           longer : Role p d c q k xs → is_start v ≡ true → long v < 3 + length xs → Free EOR xs
           longer (is_first o s r) e g = absurd (omega (arith, L.shortest k v s (L.start_kind v e)))
-          longer (is_lone {c'} {e = e'} o s r) e g = L.eor-places k c' e' xs hk s r
-          longer (is_next {e = e'} o s due same r) e g = L.eor-places k c e' xs hk s r
+          longer (is_lone {c'} {e = e'} o s r) e g = L.eor_places k c' e' xs hk s r
+          longer (is_next {e = e'} o s due same r) e g = L.eor_places k c e' xs hk s r
 
           others : Role p d c q k xs → is_start v ≡ false → IdleAfter (mk R (push seen_opening q) 2 0 q p d (FD ⊕ q) c) (v ∷ (xs ++ closing check_byte))
           others (is_first o s r) g =
@@ -553,10 +553,10 @@ module _ (R : Rules) (L : RuleLaws R) where
   not_complete_open (begun {q} {k} {xs} {c} hq hk l r) =
       let known = L.start_kind k hk in
       let (n, b, f, na) = take_start R L 0 0 q k blank hk in
-      let (e, r', y, x) = L.begin-any k q blank b c xs hk r in (
+      let (e, r', y, x) = L.begin_any k q blank b c xs hk r in (
         take 4 (seen_check R L q k xs),
         not_complete_append R (not_complete_append R (idle_opening [] blank) (go (take_picture R L 0 0 q blank hq) (other 0 tt) (go f na (not_complete_check q 0 0 known l r'))))
-            (go (take_last R L (seen_check R L q k xs) k q 0 0 (check_byte (block R q k xs)) e (L.long-3 k known)
+            (go (take_last R L (seen_check R L q k xs) k q 0 0 (check_byte (block R q k xs)) e (L.long_3 k known)
             ∙ rw hk (ap₂ (λ s t. answering R BEGUN (mk R (push (seen_check R L q k xs) TPAD) 0 0 0 (part_of k) s 0 t)) (sym x) (sym y))) (other BEGUN tt) stop),
       )
   not_complete_open (more {ys} {p} {d} {k} {xs} {c} {e} o hq hk g n m l r) =
@@ -566,7 +566,7 @@ module _ (R : Rules) (L : RuleLaws R) where
         not_complete_append R a
             (not_complete_append R (not_complete_append R (gap_not_complete w p d c (open_some R L o))
             (go (take_picture R L p d q c hq) (other 0 tt) (go (take_due R L p d q k c (open_some R L o) hk g n refl) (other 0 tt) (not_complete_check q p d g l r))))
-            (go (take_last R L (seen_check R L q k xs) k q p d (check_byte (block R q k xs)) e (L.long-3 k g) ∙ rw (n, m)) (other TAKEN tt) stop)),
+            (go (take_last R L (seen_check R L q k xs) k q p d (check_byte (block R q k xs)) e (L.long_3 k g) ∙ rw (n, m)) (other TAKEN tt) stop)),
       )
 
   -- an unaltered text that is no start, with nothing under way
@@ -605,7 +605,7 @@ module _ (R : Rules) (L : RuleLaws R) where
       → AtMostOneAltered (text_of (block R q k xs)) us → AsSentOrIdle (text R (block R q k xs)) us
   first_came {q} {k} {xs} hq hk l r as_it_was = inl (sym (text_same R (block R q k xs)))
   first_came {q} {k} {xs} {us} {c} hq hk l r (one_altered {v} nv a) =
-      inr (idle_apart nv q blank hq (L.start_kind k hk) l [] (is_first refl hk (λ c'. let (e, r', x, y) = L.begin-any k q blank c' c xs hk r in (e, r')))
+      inr (idle_apart nv q blank hq (L.start_kind k hk) l [] (is_first refl hk (λ c'. let (e, r', x, y) = L.begin_any k q blank c' c xs hk r in (e, r')))
       (subst (λ t. AlteredTo v t us) (sym (text_same R (block R q k xs))) a))
 
   -- one text more

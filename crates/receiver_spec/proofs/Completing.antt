@@ -27,7 +27,7 @@ module _ (R : Rules) (L : RuleLaws R) where
   open R use {Held, blank, is_picture, is_kind, is_start, is_end, long, due_kind, part_of, picture_of, begin, takes, enter, settle, first_due, next_due, closes}
 
   pub open_some : {ys : List ℕ} {p d : ℕ} {c : Held} → Open R ys p d c → p ≢ 0
-  open_some (begun {k} hq hk l r) = L.part-some k hk
+  open_some (begun {k} hq hk l r) = L.part_some k hk
   open_some (more o hq hk g s n l r) = open_some o
 
   -- the due byte of the opening, with a part open
@@ -125,7 +125,7 @@ module _ (R : Rules) (L : RuleLaws R) where
       move R (run R (mk R (TPAD ∷ w) 0 0 0 p d 0 c) (most R (block R q k xs))) TPAD ≡ at_last R m (push m.seen TPAD) TPAD
   due_run {k} {c} {e} {xs} w p d hp hq hk g n l r =
       let q = picture_of c in
-      ap (λ t. move R t TPAD) (due_front w p d hp hq hk g n l r) ∙ take_last R L (seen_check R L q k xs) k q p d (check_byte (block R q k xs)) e (L.long-3 k g)
+      ap (λ t. move R t TPAD) (due_front w p d hp hq hk g n l r) ∙ take_last R L (seen_check R L q k xs) k q p d (check_byte (block R q k xs)) e (L.long_3 k g)
 
   -- the texts of an open part
   pub open_run : {ys : List ℕ} {p d : ℕ} {c : Held} → Open R ys p d c → (m : Machine R) → (w : List ℕ) × (run R m ys ≡ mk R (TPAD ∷ w) 0 0 0 p d 0 c)

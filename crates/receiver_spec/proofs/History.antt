@@ -156,7 +156,7 @@ module _ (R : Rules) (L : RuleLaws R) where
       by_if (Good (h ++ (b ∷ []))) (is_picture b)
       (λ e. quiet 0 _ (λ e. omega arith)
       (history z (ys ++ (control_a ++ (FD ∷ b ∷ []))) (snoc_eq h z (ys ++ opening) b k ∙ simp append_assoc) (at_two refl e (ap (λ n. n ⊕ b) x) f)))
-      (λ _. dropped (no_picture b) _ (L.no-picture b))
+      (λ _. dropped (no_picture b) _ (L.no_picture b))
 
   -- the check byte over the first three bytes
   check_3 : (q k : ℕ) → (FD ⊕ q) ⊕ k ≡ xor_all (FD ∷ q ∷ k ∷ [])
@@ -175,7 +175,7 @@ module _ (R : Rules) (L : RuleLaws R) where
       (λ ed. by_if G (eqb m.picture (picture_of m.held))
       (λ eq. quiet 0 _ (λ e. omega arith)
       (history z (ys ++ (control_a ++ block R m.picture b [])) eqn
-      (inside {xs = []} refl (L.long-3 b (not-false (is_kind b) ek)) checks
+      (inside {xs = []} refl (L.long_3 b (not-false (is_kind b) ek)) checks
       (record {
         picture = hq;
         kind = not-false (is_kind b) ek;
@@ -197,7 +197,7 @@ module _ (R : Rules) (L : RuleLaws R) where
       fresh a c n ek es =
           quiet a _ n
           (history (z ++ ys) (control_a ++ block R m.picture b []) (eqn ∙ sym (append_assoc z ys _))
-          (inside {ys = []} {xs = []} refl (L.long-3 b ek) checks (record { picture = hq; kind = ek; source = starts es refl; contents = contents_end })))
+          (inside {ys = []} {xs = []} refl (L.long_3 b ek) checks (record { picture = hq; kind = ek; source = starts es refl; contents = contents_end })))
 
       source : {us : List ℕ} → Before m.part m.due m.held us → (m.part ≡ 0 → ⊥) → b ≡ due_kind m.part m.due → is_start b ≡ false → m.picture ≡ picture_of m.held
           → Source b m.picture m.part m.due m.held us
@@ -272,7 +272,7 @@ module _ (R : Rules) (L : RuleLaws R) where
           → h ≡ z ++ (us ++ most R (block_of m xs))
           → History (h ++ (b ∷ [])) (mk R (push m.seen b) 0 0 0 (part_of m.kind) (first_due m.kind m.held) 0 (settle m.held))
       began (starts {a} _ ed) r es e k' =
-          let f = L.begin-any m.kind m.picture a blank m.held xs es (subst (λ t. BlockContents R m.kind t 3 xs m.held) ed r) in
+          let f = L.begin_any m.kind m.picture a blank m.held xs es (subst (λ t. BlockContents R m.kind t 3 xs m.held) ed r) in
           history z (text R (block_of m xs) ++ []) (snoc_eq h z (most R (block_of m xs)) b k' ∙ rw e (ap (λ t. z ++ t) (sym (append-nil _))))
           (waiting {ys = text R (block_of m xs)} {r = []} refl (rw (f.3, f.2) (begun u.picture es l f.1)) (subst (λ t. Gap [] (push m.seen t)) (sym e) gap0))
       began (follows o ed en eq) r es e k' = never en es
@@ -320,9 +320,9 @@ module _ (R : Rules) (L : RuleLaws R) where
       (λ e. let q : m.place ≡ long m.kind = omega (arith, ltb-false m.place (long m.kind) e) in
       by_place m b _ (move_eor R _ _ _ _ _ _ _ _ b n (omega arith) q) (good_eor m _ b z k hp q x u))
   good_tail m b {h} z k (after_eor hp l x u) n =
-      by_place m b _ (move_check R _ _ _ _ _ _ _ _ b n (L.long-3 m.kind u.kind) hp) (good_check m _ b z k hp l x u)
+      by_place m b _ (move_check R _ _ _ _ _ _ _ _ b n (L.long_3 m.kind u.kind) hp) (good_check m _ b z k hp l x u)
   good_tail m b {h} z k (after_check hp l u) n =
-      by_place m b _ (move_last R _ _ _ _ _ _ _ _ b n (L.long-3 m.kind u.kind) hp) (good_last m b z k l u)
+      by_place m b _ (move_last R _ _ _ _ _ _ _ _ b n (L.long_3 m.kind u.kind) hp) (good_last m b z k l u)
 
   -- ---- a byte that ends an opening
 

@@ -65,7 +65,7 @@ module _ (R : Rules) (L : RuleLaws R) where
   open_not_complete (begun {q} {k} {xs} {c} hq hk l r) = (
     take 4 (seen_check R L q k xs),
     not_complete_append R (quiet_not_complete R (start_most hq hk l r))
-        (go {a = BEGUN} (take_last R L (seen_check R L q k xs) k q 0 0 (check_byte (block R q k xs)) c (L.long-3 k (L.start_kind k hk)) ∙ rw hk) (λ t. omega arith) stop),
+        (go {a = BEGUN} (take_last R L (seen_check R L q k xs) k q 0 0 (check_byte (block R q k xs)) c (L.long_3 k (L.start_kind k hk)) ∙ rw hk) (λ t. omega arith) stop),
   )
   open_not_complete (more {ys} {p} {d} {k} {xs} {c} {e} o hq hk g n v l r) =
       let q = picture_of c in
@@ -73,7 +73,7 @@ module _ (R : Rules) (L : RuleLaws R) where
         take 4 (seen_check R L q k xs),
         not_complete_append R before
             (not_complete_append R (quiet_not_complete R (due_most w p d (open_some R L o) hq hk g n l r))
-            (go {a = TAKEN} (take_last R L (seen_check R L q k xs) k q p d (check_byte (block R q k xs)) e (L.long-3 k g) ∙ rw (n, v)) (λ t. omega arith) stop)),
+            (go {a = TAKEN} (take_last R L (seen_check R L q k xs) k q p d (check_byte (block R q k xs)) e (L.long_3 k g) ∙ rw (n, v)) (λ t. omega arith) stop)),
       )
 
   -- a whole part but for its last byte

@@ -90,7 +90,7 @@ module _ (marks : ℕ) where
         take 4 (seen_check R (radar_laws marks) q k xs),
         from_more before
             (text_says (due_most R (radar_laws marks) w p d (open_some R (radar_laws marks) o) hq hk g n l r)
-            (take_last R (radar_laws marks) (seen_check R (radar_laws marks) q k xs) k q p d (check_byte (block R q k xs)) e ((radar_laws marks).long-3 k g) ∙ rw (n, v))),
+            (take_last R (radar_laws marks) (seen_check R (radar_laws marks) q k xs) k q p d (check_byte (block R q k xs)) e ((radar_laws marks).long_3 k g) ∙ rw (n, v))),
       )
 
   whole_says : {zs : List ℕ} {e : Held} (x : Whole R zs e) (m : Machine R) → (n : Machine R) × From m zs ((whole_answers marks) x) n
@@ -101,7 +101,7 @@ module _ (marks : ℕ) where
         mk R (push (seen_check R (radar_laws marks) q k xs) TPAD) 0 0 0 0 0 0 e,
         from_more before
             (text_says (due_most R (radar_laws marks) w p d (open_some R (radar_laws marks) o) hq hk g n l r)
-            (take_last R (radar_laws marks) (seen_check R (radar_laws marks) q k xs) k q p d (check_byte (block R q k xs)) e ((radar_laws marks).long-3 k g) ∙ rw (n, v, z))),
+            (take_last R (radar_laws marks) (seen_check R (radar_laws marks) q k xs) k q p d (check_byte (block R q k xs)) e ((radar_laws marks).long_3 k g) ∙ rw (n, v, z))),
       )
 
   -- ---- 01's receiver

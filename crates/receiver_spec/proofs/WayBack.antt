@@ -32,10 +32,10 @@ module _ (R : Rules) (L : RuleLaws R) where
   open R use {Held, blank, is_picture, is_kind, is_start, is_end, long, due_kind, part_of, picture_of, begin, takes, enter, settle, first_due, next_due, closes}
 
   pub picture_not_fd : (q : ℕ) → is_picture q ≡ true → q ≢ FD
-  picture_not_fd q h e = never L.fd-picture (sym (ap is_picture e) ∙ h)
+  picture_not_fd q h e = never L.fd_picture (sym (ap is_picture e) ∙ h)
 
   pub kind_not_fd : (k : ℕ) → is_kind k ≡ true → k ≢ FD
-  kind_not_fd k h e = never L.fd-kind (sym (ap is_kind e) ∙ h)
+  kind_not_fd k h e = never L.fd_kind (sym (ap is_kind e) ∙ h)
 
   -- a block byte that keeps its rule
   pub take_byte : (w : List ℕ) (i k q p d x : ℕ) (c : Held) (b : ℕ) → ends_opening w b ≡ false → 3 ≤ i → i < long k → takes k c i b ≡ true
@@ -54,7 +54,7 @@ module _ (R : Rules) (L : RuleLaws R) where
       let far : suc i + length xs ≡ i + suc (length xs) = omega arith in
       quiet_byte (take_byte (y ∷ w) i k q p d x c b shut h (omega arith) g)
       (subst₂ (λ n z. AllQuiet R (mk R (push (y ∷ w) b) (suc i) k q p d (x ⊕ b) (enter k c i b)) xs (mk R (pushes (push (y ∷ w) b) xs) n k q p d z e)) far (xor_cons x b xs)
-      (body_quiet q p d (x ⊕ b) b (take 4 (y ∷ w)) r (omega arith) (omega arith) (λ t s. never (L.fd-after k i c (subst (λ v. takes k c i v ≡ true) s g)) (subst (λ v. takes k (enter k c i v) (suc i) FD ≡ true) s t))))
+      (body_quiet q p d (x ⊕ b) b (take 4 (y ∷ w)) r (omega arith) (omega arith) (λ t s. never (L.fd_after k i c (subst (λ v. takes k c i v ≡ true) s g)) (subst (λ v. takes k (enter k c i v) (suc i) FD ≡ true) s t))))
 
   -- EOR and check byte
   pub take_eor : (w : List ℕ) (k q p d x : ℕ) (c : Held) → 3 ≤ long k
@@ -81,9 +81,9 @@ module _ (R : Rules) (L : RuleLaws R) where
       let w = pushes (seen_kind q k) xs in
       quiet_append R
       (subst₂ (λ n y. AllQuiet R (mk R (seen_kind q k) 3 k q p d (check_at3 q k) c) xs (mk R w n k q p d y e)) l refl
-      (body_quiet q p d (check_at3 q k) k _ r (omega arith) (omega arith) (λ t. never (L.fd-first k c hk) t)))
-      (quiet_byte (take_eor w k q p d (check_at3 q k ⊕ xor_all xs) e (L.long-3 k hk) ∙ ap (λ x. answering R 0 (mk R (push w EOR) (suc (long k)) k q p d x e)) (checked q k xs))
-      (quiet_byte (take_check (take 4 w) k q p d z e (L.long-3 k hk)) quiet_none))
+      (body_quiet q p d (check_at3 q k) k _ r (omega arith) (omega arith) (λ t. never (L.fd_first k c hk) t)))
+      (quiet_byte (take_eor w k q p d (check_at3 q k ⊕ xor_all xs) e (L.long_3 k hk) ∙ ap (λ x. answering R 0 (mk R (push w EOR) (suc (long k)) k q p d x e)) (checked q k xs))
+      (quiet_byte (take_check (take 4 w) k q p d z e (L.long_3 k hk)) quiet_none))
 
   -- the opening, from any state
   open_from : (m : Machine R) → m.seen ≡ seen_control → (p : ℕ) × (d : ℕ) × (c : Held) × ((move R m FD).machine ≡ mk R seen_opening 1 0 0 p d FD c)
@@ -126,14 +126,14 @@ module _ (R : Rules) (L : RuleLaws R) where
       let z = check_byte (FD ∷ q ∷ k ∷ xs) in
       let o = any_open m in
       let g = take_start o.0 o.1 q k o.2 hk in
-      let b = L.begin-any k q blank g.1 e xs hk r in
+      let b = L.begin_any k q blank g.1 e xs hk r in
       ap (λ t. move R t TPAD)
       (run_append R m (control_a ++ (FD ∷ [])) (q ∷ k ∷ (xs ++ (EOR ∷ z ∷ [])))
       ∙ ap (λ t. run R t (q ∷ k ∷ (xs ++ (EOR ∷ z ∷ [])))) o.3
       ∙ ap (λ t. run R t.machine (k ∷ (xs ++ (EOR ∷ z ∷ [])))) (take_picture o.0 o.1 q o.2 hq)
       ∙ ap (λ t. run R t.machine (xs ++ (EOR ∷ z ∷ []))) g.2
       ∙ quiet_run R (block_quiet q 0 0 known l b.1))
-      ∙ take_last (seen_check q k xs) k q 0 0 z b.0 (L.long-3 k known)
+      ∙ take_last (seen_check q k xs) k q 0 0 z b.0 (L.long_3 k known)
       ∙ rw hk (ap₂ (λ x y. answering R BEGUN (mk R (push (seen_check q k xs) TPAD) 0 0 0 (part_of k) x 0 y)) (sym b.3) (sym b.2))
 
   -- from a start text's last byte on, it makes no difference what came before it

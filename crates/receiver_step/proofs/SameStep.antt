@@ -36,7 +36,7 @@ module _ (s : State) (g : List ℕ) (b : ℕ) where
 
   lost_same : (n : ℕ) → Means g b (drops t n) (R.drops n (state_of s) u)
   unfolding pushed_state
-  lost_same n = rest-of-text.lost-same t g b n
+  lost_same n = rest-of-text.lost_same t g b n
 
   opened_same : Means g b (opened_text t) (R.opened (state_of s) g u)
   unfolding opened_text goes_on begins begun_header number_of applied pushed_state R.opened

@@ -55,7 +55,12 @@ grid_place-at-requires c =
     let a = c.args in
     let kept = c.if-kept.true in
     let (low, high, rule) = taken_has a.kind a.header a.i a.b (sym c.is_taken-kept.ensures ∙ kept) in
-    (low, (high, (c.requires, one_false c.is_end_kind.ensures kept c.if-kept-is_end_kind.false)))
+    record {
+      le_i = low;
+      i_bound = high;
+      kind_value = c.requires;
+      kind_value_2 = one_false c.is_end_kind.ensures kept c.if-kept-is_end_kind.false;
+    }
 
 pub returns-then-kept : goal.returns-then-kept
 returns-then-kept c =
@@ -63,8 +68,8 @@ returns-then-kept c =
     into_grid _ _ _ _ _ _ c.requires kept (sym c.is_taken-kept.ensures ∙ kept) (one_false c.is_end_kind.ensures kept c.if-kept-is_end_kind.false)
     c.grid_place-at.ensures
 
-pub returns : goal.returns
-returns c =
+pub returns-then-kept-is_end_kind : goal.returns
+returns-then-kept-is_end_kind c =
     broken _ _ _ _ _ _ c.requires c.is_taken-kept.ensures c.if-kept.false
 
 pub is_taken-kept-requires : goal.is_taken-kept-requires

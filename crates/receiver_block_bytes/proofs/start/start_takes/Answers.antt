@@ -41,7 +41,11 @@ pub later_takes-requires : goal.later_takes-requires
 later_takes-requires c =
     let r = c.in_default.rest in
     let pre = c.requires in
-    ((omega (arith, pre.0.0, r.0.0.0.0.0.1, r.0.0.0.0.1, r.0.0.0.1, r.0.0.1, r.0.1), pre.0.1), (pre.1, r.1))
+    record {
+      le_i = (omega (arith, pre.0.0, r.0.0.0.0.0.1, r.0.0.0.0.1, r.0.0.0.1, r.0.0.1, r.0.1), pre.0.1);
+      i_nonzero = pre.1;
+      i_nonzero_2 = r.1;
+    }
 
 pub returns-in-3 : goal.returns-in-3
 returns-in-3 c = at_3 _ _ _ c.in_default.keys1

@@ -90,17 +90,17 @@ returns-then-not-is_possible c =
     rw c.refused-then-not-is_possible.ensures (record {
       grid_after = simp (
         eq-eqb _ _ c.if-grid-ne20000.false,
-        ap not (sym c.is_possible.ensures) ∙ c.if-not-is_possible.true,
+        sym c.is_possible.ensures ∙ c.if-not-is_possible.true,
       );
       seen_value = refl;
     })
 
-pub returns : goal.returns
+pub returns-then-grid-ne20000 : goal.returns
 unfolding seen_after
-returns c =
+returns-then-grid-ne20000 c =
     let a = c.args in
     let d = c.decide-d.ensures in
-    let possible = not-false _ (ap not (sym c.is_possible.ensures) ∙ c.if-not-is_possible.false) in record {
+    let possible = ((sym c.is_possible.ensures) ∙ c.if-not-is_possible.false) in record {
       grid_after = rw (c.apply.ensures, d) (taken a.state a.grid.now a.b (search rules) c.if-grid-ne20000.false possible);
       seen_value = rw d (decide_facts a.state a.b).2;
     }

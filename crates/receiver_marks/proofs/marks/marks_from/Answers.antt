@@ -7,8 +7,8 @@ use Rattle.receiver_marks.proofs.marks.marks_from.Goals as goal
 
 pub returns-then-not-are_marks : goal.returns-then-not-are_marks
 unfolding marks_from
-returns-then-not-are_marks c = simp (sym c.are_marks.ensures ∙ not-true _ c.if-not-are_marks.true)
+returns-then-not-are_marks c = simp (sym c.are_marks.ensures ∙ c.if-not-are_marks.true)
 
-pub returns : goal.returns
+pub returns-then-not-are_marks : goal.returns
 unfolding marks_from
-returns c = simp (sym c.are_marks.ensures ∙ not-false _ c.if-not-are_marks.false)
+returns-then-not-are_marks c = simp (sym c.are_marks.ensures ∙ c.if-not-are_marks.false)

@@ -21,15 +21,15 @@ pub returns-then-not-is_possible : goal.returns-then-not-is_possible
 unfolding returned slice_call reply_of seen_after
 returns-then-not-is_possible c =
     rw c.refused-then-not-is_possible.ensures (record {
-      grid_after = simp (eq-eqb _ _ c.if-grid-ne20000.false, ap not (sym c.is_possible.ensures) ∙ c.if-not-is_possible.true);
+      grid_after = simp (eq-eqb _ _ c.if-grid-ne20000.false, sym c.is_possible.ensures ∙ c.if-not-is_possible.true);
       seen_value = refl;
     })
 
-pub returns : goal.returns
-returns c =
+pub returns-then-grid-ne20000 : goal.returns
+returns-then-grid-ne20000 c =
     let a = c.args in
     sliced a.state a.grid.now a.bytes.now (λ j. omega (arith, c.shared_slice_known-1.given j)) c.if-grid-ne20000.false
-    (not-false _ (ap not (sym c.is_possible.ensures) ∙ c.if-not-is_possible.false)) _ _ c.take_bytes.ensures
+    (((sym c.is_possible.ensures) ∙ c.if-not-is_possible.false)) _ _ c.take_bytes.ensures
 
 pub take_bytes-requires : goal.take_bytes-requires
 take_bytes-requires c = c.if-grid-ne20000.false

@@ -32,28 +32,28 @@ loop-i-init c =
 pub returns-then-not-is_quiet : goal.returns-then-not-is_quiet
 returns-then-not-is_quiet c =
     runs_to_stop (runs_to_trans (first_run c.args.state c.args.grid.now c.args.bytes.now c.requires c.past_stretch-first.ensures) c.loop-i.invariant) c.loop-i-test.true c.decide-d.ensures
-    c.apply.ensures (sym c.is_quiet.ensures ∙ not-true _ c.if-not-is_quiet.true)
+    c.apply.ensures (sym c.is_quiet.ensures ∙ c.if-not-is_quiet.true)
 
 pub loop-i-preserved-then-f : goal.loop-i-preserved-then-f
 loop-i-preserved-then-f c =
     let bytes = c.args.bytes.now in
     next_run _ (rest_is bytes (c.loop-i.i + 1))
-    (runs_to_byte c.loop-i.invariant c.loop-i-test.true c.decide-d.ensures c.apply.ensures (sym c.is_quiet.ensures ∙ not-false _ c.if-not-is_quiet.false))
+    (runs_to_byte c.loop-i.invariant c.loop-i-test.true c.decide-d.ensures c.apply.ensures (sym c.is_quiet.ensures ∙ c.if-not-is_quiet.false))
     c.past_stretch-on.ensures
 
 pub overflow_add-i-then-f : goal.overflow_add-i-then-f
-overflow_add-i-then-f c = omega (arith, (loop_again c).inside, c.well_formed)
+overflow_add-i-then-f c = omega (arith, (loop-i-preserved-then-f c).inside, c.well_formed)
 
 pub loop-i-smaller-then-f : goal.loop-i-smaller-then-f
-loop-i-smaller-then-f c = omega (arith, (loop_again c).inside, c.loop-i-test.true)
+loop-i-smaller-then-f c = omega (arith, (loop-i-preserved-then-f c).inside, c.loop-i-test.true)
 
 pub loop-i-preserved : goal.loop-i-preserved
 loop-i-preserved c =
     runs_to_byte c.loop-i.invariant c.loop-i-test.true c.decide-d.ensures c.apply.ensures
-    (sym c.is_quiet.ensures ∙ not-false _ c.if-not-is_quiet.false)
+    (sym c.is_quiet.ensures ∙ c.if-not-is_quiet.false)
 
-pub returns : goal.returns
-returns c =
+pub returns-then-not-is_quiet : goal.returns
+returns-then-not-is_quiet c =
     runs_to_all (runs_to_trans (first_run c.args.state c.args.grid.now c.args.bytes.now c.requires c.past_stretch-first.ensures) c.loop-i.invariant) c.loop-i-test.false
 
 pub overflow_add-i : goal.overflow_add-i

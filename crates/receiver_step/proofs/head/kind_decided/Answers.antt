@@ -19,9 +19,9 @@ returns-then-row-ne0 c =
       sym c.is_start_kind.ensures ∙ c.if-is_start_kind.false,
     )
 
-pub returns : goal.returns
+pub returns-then-is_start_kind : goal.returns
 unfolding kind_decided
-returns c =
+returns-then-is_start_kind c =
     simp (
       c.goes_on.ensures,
       c.onward.ensures,

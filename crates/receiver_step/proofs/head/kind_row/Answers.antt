@@ -28,18 +28,18 @@ module _ (f : Frame) (picture b : ℕ) {k : ℕ} (due : k ≡ kind_of f.part f.d
 
 pub returns-then-not-is_kind : goal.returns-then-not-is_kind
 unfolding kind_row
-returns-then-not-is_kind c = simp (sym c.is_kind.ensures ∙ not-true _ c.if-not-is_kind.true)
+returns-then-not-is_kind c = simp (sym c.is_kind.ensures ∙ c.if-not-is_kind.true)
 
 pub returns-then-f-b : goal.returns-then-f-b
 returns-then-f-b c =
-    at_16 _ _ _ c.kind_of.ensures (sym c.is_kind.ensures ∙ not-false _ c.if-not-is_kind.false) c.if-f-b.true
+    at_16 _ _ _ c.kind_of.ensures (sym c.is_kind.ensures ∙ c.if-not-is_kind.false) c.if-f-b.true
 
 pub returns-then-f-picture : goal.returns-then-f-picture
 returns-then-f-picture c =
-    at_17 _ _ _ c.kind_of.ensures (sym c.is_kind.ensures ∙ not-false _ c.if-not-is_kind.false) c.if-f-b.false
+    at_17 _ _ _ c.kind_of.ensures (sym c.is_kind.ensures ∙ c.if-not-is_kind.false) c.if-f-b.false
     (ne_eqb _ _ c.if-f-picture.true)
 
-pub returns : goal.returns
-returns c =
-    at_0 _ _ _ c.kind_of.ensures (sym c.is_kind.ensures ∙ not-false _ c.if-not-is_kind.false) c.if-f-b.false
+pub returns-then-not-is_kind : goal.returns
+returns-then-not-is_kind c =
+    at_0 _ _ _ c.kind_of.ensures (sym c.is_kind.ensures ∙ c.if-not-is_kind.false) c.if-f-b.false
     (eq-eqb _ _ c.if-f-picture.false)

@@ -93,16 +93,14 @@ payload_passed-requires c =
     let a = c.args in
     let f = a.s.frame in
     let in-payload-is = in_payload f (length a.grid.now) c.is_in_payload.ensures c.if-is_in_payload-grid.false in
-    let n = c.least-n.result in (
-      in-payload-is,
-      (
-        omega (arith, c.least-n.ensures, c.block_length.ensures, (in_payload_has f in-payload-is).high, length-take-le n a.bytes.now (omega (arith, c.least-n.ensures))),
-        long f (length a.grid.now) c.is_in_payload.ensures c.if-is_in_payload-grid.false,
-      ),
-    )
+    let n = c.least-n.result in record {
+      frame_value = in-payload-is;
+      bytes_bound = omega (arith, c.least-n.ensures, c.block_length.ensures, (in_payload_has f in-payload-is).high, length-take-le n a.bytes.now (omega (arith, c.least-n.ensures)));
+      grid_len = long f (length a.grid.now) c.is_in_payload.ensures c.if-is_in_payload-grid.false;
+    }
 
-pub returns : goal.returns
-returns c =
+pub returns-then-is_in_payload-grid : goal.returns
+returns-then-is_in_payload-grid c =
     let a = c.args in
     let size = c.block_length.ensures in
     c.payload_passed.ensures

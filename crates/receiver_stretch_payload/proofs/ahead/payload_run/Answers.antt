@@ -31,7 +31,7 @@ returns-then-not-is_payload_byte c =
     let a = c.args in
     let part = c.part_of_kind-part.ensures in
     let bytes = a.bytes.now in
-    let bad = ap (λ p. is_payload_byte p (get_or bytes c.loop-i.i 0)) (sym part) ∙ sym c.is_payload_byte.ensures ∙ not-true _ c.if-not-is_payload_byte.true in
+    let bad = ap (λ p. is_payload_byte p (get_or bytes c.loop-i.i 0)) (sym part) ∙ sym c.is_payload_byte.ensures ∙ c.if-not-is_payload_byte.true in
     passed_first a.s a.grid.now bytes (allowed_stop _ bytes c.loop-i.i c.loop-i.invariant.1.0 c.loop-i-test.true bad)
     c.advanced_state.ensures c.loop-i.invariant.0
 
@@ -73,7 +73,7 @@ loop-i-preserved c =
     let b = get_or bytes i 0 in
     let h = in_payload_has s.frame c.requires.frame_value in
     let here = c.loop-i-test.true in
-    let good = ap (λ p. is_payload_byte p b) (sym c.part_of_kind-part.ensures) ∙ sym c.is_payload_byte.ensures ∙ not-false _ c.if-not-is_payload_byte.false in
+    let good = ap (λ p. is_payload_byte p b) (sym c.part_of_kind-part.ensures) ∙ sym c.is_payload_byte.ensures ∙ c.if-not-is_payload_byte.false in
     let grid_place : c.payload_base-base.result + i ≡ 2000 * (text_number s.frame.kind - 1) + (s.frame.place + i - 3) =
     omega (arith, c.payload_base-base.ensures.value, h.low) in (
       payload_byte_passed s h a.grid.now bytes c.loop-i.grid (s.frame.place + i) c.loop-i.check c.loop-i.seen c.loop-i.count i c.loop-i.invariant.0 here
@@ -85,8 +85,8 @@ loop-i-preserved c =
     onward : (p i : ℕ) → p + (i + 1) ≡ p + i + 1
     onward p i = omega arith
 
-pub returns : goal.returns
-returns c =
+pub returns-then-not-is_payload_byte : goal.returns
+returns-then-not-is_payload_byte c =
     let a = c.args in
     passed_first a.s a.grid.now a.bytes.now
     (allowed_end _ a.bytes.now c.loop-i.i c.loop-i.invariant.1.0 (drop_of_length-le a.bytes.now c.loop-i-test.false))

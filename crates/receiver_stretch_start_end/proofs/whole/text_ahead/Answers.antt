@@ -71,7 +71,12 @@ pub start_ahead-requires : goal.start_ahead-requires
 start_ahead-requires c =
     let a = c.args in
     let (l, n) = text_has a.s a.bytes.now c.ends_opening.ensures c.if-bytes-ends_opening.false in
-    (sym c.is_idle.ensures ∙ c.if-is_idle.true, (n, (l, sym c.is_marked.ensures ∙ not-false _ c.if-not-is_marked.false)))
+    record {
+      frame_value = sym c.is_idle.ensures ∙ c.if-is_idle.true;
+      count_value = n;
+      in_bounds = l;
+      bytes_value = sym c.is_marked.ensures ∙ c.if-not-is_marked.false;
+    }
 
 pub returns-then-is_idle : goal.returns-then-is_idle
 returns-then-is_idle c =
@@ -81,8 +86,12 @@ pub end_ahead-requires : goal.end_ahead-requires
 end_ahead-requires c =
     let a = c.args in
     let (l, n) = text_has a.s a.bytes.now c.ends_opening.ensures c.if-bytes-ends_opening.false in
-    (n, (l, sym c.is_marked.ensures ∙ not-false _ c.if-not-is_marked.false))
+    record {
+      count_value = n;
+      in_bounds = l;
+      bytes_value = sym c.is_marked.ensures ∙ c.if-not-is_marked.false;
+    }
 
-pub returns : goal.returns
-returns c =
+pub returns-then-bytes-ends_opening : goal.returns
+returns-then-bytes-ends_opening c =
     end_text _ _ c.ends_opening.ensures c.is_marked.ensures c.if-bytes-ends_opening.false c.if-not-is_marked.false (sym c.is_idle.ensures ∙ c.if-is_idle.false) c.end_ahead.ensures

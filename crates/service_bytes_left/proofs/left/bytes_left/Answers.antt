@@ -12,17 +12,17 @@ use Rattle.service_bytes_left.proofs.left.bytes_left.Goals as goal
 
 pub returns-then-not-is_possible : goal.returns-then-not-is_possible
 unfolding bytes_left answer_of
-returns-then-not-is_possible c = rw (sym c.is_possible.ensures ∙ not-true _ c.if-not-is_possible.true)
+returns-then-not-is_possible c = rw (sym c.is_possible.ensures ∙ c.if-not-is_possible.true)
 
 pub returns-then-f-eq0 : goal.returns-then-f-eq0
 unfolding bytes_left answer_of
 returns-then-f-eq0 c =
-    rw (sym c.is_possible.ensures ∙ not-false _ c.if-not-is_possible.false, eq-eqb _ _ c.if-f-eq0.true)
+    rw (sym c.is_possible.ensures ∙ c.if-not-is_possible.false, eq-eqb _ _ c.if-f-eq0.true)
 
 pub returns-then-f-eq0-2 : goal.returns-then-f-eq0-2
 unfolding bytes_left answer_of
 returns-then-f-eq0-2 c =
-    rw (sym c.is_possible.ensures ∙ not-false _ c.if-not-is_possible.false, ne_eqb _ _ c.if-f-eq0.false, eq-eqb _ _ c.if-f-eq0-2.true)
+    rw (sym c.is_possible.ensures ∙ c.if-not-is_possible.false, ne_eqb _ _ c.if-f-eq0.false, eq-eqb _ _ c.if-f-eq0-2.true)
 
 -- whatever the kind, a block's length leaves room for three bytes more
 short : (r k : ℕ) → r ≡ block_length k → r ≤ 2003
@@ -36,11 +36,11 @@ overflow_sub-result c =
     omega (
       arith,
       c.block_length.ensures,
-      place_in_text _ (sym c.is_possible.ensures ∙ not-false _ c.if-not-is_possible.false) c.if-f-eq0-2.false,
+      place_in_text _ (sym c.is_possible.ensures ∙ c.if-not-is_possible.false) c.if-f-eq0-2.false,
     )
 
-pub returns : goal.returns
+pub returns-then-not-is_possible : goal.returns
 unfolding bytes_left rest_length answer_of
-returns c =
-    rw (sym c.is_possible.ensures ∙ not-false _ c.if-not-is_possible.false, ne_eqb _ _ c.if-f-eq0.false, ne_eqb _ _ c.if-f-eq0-2.false)
+returns-then-not-is_possible c =
+    rw (sym c.is_possible.ensures ∙ c.if-not-is_possible.false, ne_eqb _ _ c.if-f-eq0.false, ne_eqb _ _ c.if-f-eq0-2.false)
     (ap left (omega (arith, c.block_length.ensures)))

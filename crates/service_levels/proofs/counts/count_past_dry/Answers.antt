@@ -9,5 +9,5 @@ use Rattle.service_levels.proofs.counts.count_past_dry.Goals as goal
 pub returns : goal.returns
 returns c =
     let a = c.args in
-    let dry = sym c.are_zero.ensures ∙ not-false c.are_zero.result c.if-not-are_zero.false in
+    let dry = sym c.are_zero.ensures ∙ c.if-not-are_zero.false in
     sym (dry_bytes a.bytes.now dry a.level (omega arith))

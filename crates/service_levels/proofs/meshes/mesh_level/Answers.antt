@@ -20,7 +20,7 @@ unfolding answer_of mesh_level
 returns-then-not-has_no_level_15 c =
     simp (
       eq-eqb _ _ c.if-grid-ne20000.false,
-      ap not (sym c.has_no_level_15.ensures) ∙ c.if-not-has_no_level_15.true,
+      sym c.has_no_level_15.ensures ∙ c.if-not-has_no_level_15.true,
     )
 
 pub returns-then-mesh : goal.returns-then-mesh
@@ -28,7 +28,7 @@ unfolding answer_of mesh_level
 returns-then-mesh c =
     simp (
       eq-eqb _ _ c.if-grid-ne20000.false,
-      ap not (sym c.has_no_level_15.ensures) ∙ c.if-not-has_no_level_15.false,
+      sym c.has_no_level_15.ensures ∙ c.if-not-has_no_level_15.false,
       no_mesh c.args.mesh ∙ c.if-mesh.true,
     )
 
@@ -44,17 +44,17 @@ unfolding answer_of mesh_level level_of odd_level
 returns-then-mesh-eq1 c =
     simp (
       eq-eqb _ _ c.if-grid-ne20000.false,
-      ap not (sym c.has_no_level_15.ensures) ∙ c.if-not-has_no_level_15.false,
+      sym c.has_no_level_15.ensures ∙ c.if-not-has_no_level_15.false,
       no_mesh c.args.mesh ∙ c.if-mesh.false,
       eq-eqb _ _ c.if-mesh-eq1.true,
     )
 
-pub returns : goal.returns
+pub returns-then-grid-ne20000 : goal.returns
 unfolding answer_of mesh_level level_of even_level
-returns c =
+returns-then-grid-ne20000 c =
     simp (
       eq-eqb _ _ c.if-grid-ne20000.false,
-      ap not (sym c.has_no_level_15.ensures) ∙ c.if-not-has_no_level_15.false,
+      sym c.has_no_level_15.ensures ∙ c.if-not-has_no_level_15.false,
       no_mesh c.args.mesh ∙ c.if-mesh.false,
       ne_eqb _ _ c.if-mesh-eq1.false,
     )

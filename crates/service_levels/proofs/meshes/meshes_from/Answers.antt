@@ -17,7 +17,7 @@ unfolding answer_of meshes_from
 returns-then-not-has_no_level_15 c =
     simp (
       eq-eqb _ _ c.if-grid-ne20000.false,
-      ap not (sym c.has_no_level_15.ensures) ∙ c.if-not-has_no_level_15.true,
+      sym c.has_no_level_15.ensures ∙ c.if-not-has_no_level_15.true,
     )
 
 pub returns-then-level-gt14 : goal.returns-then-level-gt14
@@ -25,15 +25,15 @@ unfolding answer_of meshes_from
 returns-then-level-gt14 c =
     simp (
       eq-eqb _ _ c.if-grid-ne20000.false,
-      ap not (sym c.has_no_level_15.ensures) ∙ c.if-not-has_no_level_15.false,
+      sym c.has_no_level_15.ensures ∙ c.if-not-has_no_level_15.false,
       lt-leb c.args.level 14 (omega arith),
     )
 
-pub returns : goal.returns
+pub returns-then-grid-ne20000 : goal.returns
 unfolding answer_of meshes_from
-returns c =
+returns-then-grid-ne20000 c =
     simp (
       eq-eqb _ _ c.if-grid-ne20000.false,
-      ap not (sym c.has_no_level_15.ensures) ∙ c.if-not-has_no_level_15.false,
+      sym c.has_no_level_15.ensures ∙ c.if-not-has_no_level_15.false,
       le-leb c.args.level 14 (omega arith),
     ) (ap value c.count_from.ensures)

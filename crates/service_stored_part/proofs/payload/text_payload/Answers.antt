@@ -14,27 +14,27 @@ use Rattle.text_status.proofs.status.no_echo_of.Reads as no-echo-of-reads
 use Rattle.service_stored_part.proofs.payload.text_payload.Goals as goal
 
 pub returns-then-not-is_undamaged_part : goal.returns-then-not-is_undamaged_part
-returns-then-not-is_undamaged_part c = damaged _ _ (sym c.is_undamaged_part.ensures ∙ not-true _ c.if-not-is_undamaged_part.true)
+returns-then-not-is_undamaged_part c = damaged _ _ (sym c.is_undamaged_part.ensures ∙ c.if-not-is_undamaged_part.true)
 
 pub bounds-part-7 : goal.bounds-part-7
-bounds-part-7 c = omega (arith, long _ (sym c.is_undamaged_part.ensures ∙ not-false _ c.if-not-is_undamaged_part.false))
+bounds-part-7 c = omega (arith, long _ (sym c.is_undamaged_part.ensures ∙ c.if-not-is_undamaged_part.false))
 
 pub bounds-part-9 : goal.bounds-part-9
-bounds-part-9 c = omega (arith, long _ (sym c.is_undamaged_part.ensures ∙ not-false _ c.if-not-is_undamaged_part.false))
+bounds-part-9 c = omega (arith, long _ (sym c.is_undamaged_part.ensures ∙ c.if-not-is_undamaged_part.false))
 
 pub returns-then-k-last : goal.returns-then-k-last
 returns-then-k-last c =
-    none _ (sym c.is_undamaged_part.ensures ∙ not-false _ c.if-not-is_undamaged_part.false) c.part_of_kind-number.ensures c.no_echo_of.ensures c.data_texts-last.ensures _ c.if-k-last.true
+    none _ (sym c.is_undamaged_part.ensures ∙ c.if-not-is_undamaged_part.false) c.part_of_kind-number.ensures c.no_echo_of.ensures c.data_texts-last.ensures _ c.if-k-last.true
 
 -- behind the last test, the text is there
 has_place : (c : lts.After-data-block-length (is-undamaged-part-reads.Asked, is-undamaged-part-reads.Learnt, part-of-kind-reads.Asked, part-of-kind-reads.Learnt, no-echo-of-reads.Asked, no-echo-of-reads.Learnt, data-texts-reads.Asked, data-texts-reads.Learnt, data-block-length-reads.Asked, data-block-length-reads.Learnt) reads.Pre reads.Post)
     → PayloadPlace c.args.part.now c.data_block_length.result c.args.k
 has_place c =
-    payload_place _ (sym c.is_undamaged_part.ensures ∙ not-false _ c.if-not-is_undamaged_part.false) c.part_of_kind-number.ensures c.no_echo_of.ensures
+    payload_place _ (sym c.is_undamaged_part.ensures ∙ c.if-not-is_undamaged_part.false) c.part_of_kind-number.ensures c.no_echo_of.ensures
     c.data_texts-last.ensures c.data_block_length.ensures c.args.k c.if-k-last.false
 
-pub returns : goal.returns
-returns c = (has_place c).given
+pub returns-then-not-is_undamaged_part : goal.returns
+returns-then-not-is_undamaged_part c = (has_place c).given
 
 pub overflow_sub-size : goal.overflow_sub-size
 overflow_sub-size c = omega (arith, has_place c)

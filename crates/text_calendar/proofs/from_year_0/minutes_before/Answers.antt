@@ -9,7 +9,13 @@ pub day_of-days-requires : goal.day_of-days-requires
 day_of-days-requires c =
     let a = c.args in
     let r = in_calendar a.year a.month a.day a.hour a.minute c.requires in
-    (r.year, (r.month_most, (r.month_least, (omega (arith, r.day_most, month_most a.year a.month), r.day_least))))
+    record {
+      year_bound = r.year;
+      month_bound = r.month_most;
+      le_month = r.month_least;
+      day_bound = omega (arith, r.day_most, month_most a.year a.month);
+      le_day = r.day_least;
+    }
 
 pub returns : goal.returns
 unfolding minutes_before

@@ -25,6 +25,6 @@ overflow_sub-result c = rw (to_z_pos w64 {n = c.args.n} (omega arith)) (sub_fits
 
 pub returns : goal.returns
 returns c =
-    to_z-of_z (sub_result c)
+    to_z-of_z (overflow_sub-result c)
     ∙ ap (λ (z : ℤ). z -ℤ pos 1051898400) (to_z_pos w64 {n = c.args.n} (omega arith))
     ∙ ap (λ (e : ℕ). sub_ℕ c.args.n e) (sym epoch_is)

@@ -18,12 +18,12 @@ pub returns-then-not-is_mode_byte : goal.returns-then-not-is_mode_byte
 returns-then-not-is_mode_byte c =
     sym (
     places_false _ 0 8 c.loop-i.i (omega arith) (omega arith)
-    (sym c.is_mode_byte.ensures ∙ not-true _ c.if-not-is_mode_byte.true))
+    (sym c.is_mode_byte.ensures ∙ c.if-not-is_mode_byte.true))
 
 pub loop-i-preserved : goal.loop-i-preserved
 loop-i-preserved c =
-    let right = sym c.is_mode_byte.ensures ∙ not-false _ c.if-not-is_mode_byte.false in
+    let right = sym c.is_mode_byte.ensures ∙ c.if-not-is_mode_byte.false in
     (omega arith, below_more _ _ c.loop-i.invariant.1 right)
 
-pub returns : goal.returns
-returns c = sym (places_true _ 0 8 (λ k l m. c.loop-i.invariant.1 k (omega arith)))
+pub returns-then-not-is_mode_byte : goal.returns
+returns-then-not-is_mode_byte c = sym (places_true _ 0 8 (λ k l m. c.loop-i.invariant.1 k (omega arith)))

@@ -24,7 +24,7 @@ returns-then-not-block-known c =
       end_rules a.radars a.block.now c.if-block-ne32.false,
       sym c.is_picture_code.ensures,
       sym c.is_end_kind.ensures,
-      not-true (eqb (a.block.now ! 0) FD && (c.is_picture_code.result && c.is_end_kind.result)) c.if-not-block-known.true,
+      c.if-not-block-known.true,
     )
 
 pub returns-then-not-are_mode_bytes : goal.returns-then-not-are_mode_bytes
@@ -36,8 +36,8 @@ returns-then-not-are_mode_bytes c =
       end_rules a.radars a.block.now c.if-block-ne32.false,
       sym c.is_picture_code.ensures,
       sym c.is_end_kind.ensures,
-      not-false (eqb (a.block.now ! 0) FD && (c.is_picture_code.result && c.is_end_kind.result)) c.if-not-block-known.false,
-      sym c.are_mode_bytes.ensures ∙ not-true _ c.if-not-are_mode_bytes.true,
+      c.if-not-block-known.false,
+      sym c.are_mode_bytes.ensures ∙ c.if-not-are_mode_bytes.true,
     )
 
 pub returns-then-not-is_zero_behind : goal.returns-then-not-is_zero_behind
@@ -49,21 +49,21 @@ returns-then-not-is_zero_behind c =
       end_rules a.radars a.block.now c.if-block-ne32.false,
       sym c.is_picture_code.ensures,
       sym c.is_end_kind.ensures,
-      not-false (eqb (a.block.now ! 0) FD && (c.is_picture_code.result && c.is_end_kind.result)) c.if-not-block-known.false,
-      sym c.are_mode_bytes.ensures ∙ not-false _ c.if-not-are_mode_bytes.false,
-      sym c.is_zero_behind.ensures ∙ not-true _ c.if-not-is_zero_behind.true,
+      c.if-not-block-known.false,
+      sym c.are_mode_bytes.ensures ∙ c.if-not-are_mode_bytes.false,
+      sym c.is_zero_behind.ensures ∙ c.if-not-is_zero_behind.true,
     )
 
-pub returns : goal.returns
+pub returns-then-block-ne32 : goal.returns
 unfolding end_read
-returns c =
+returns-then-block-ne32 c =
     let a = c.args in
     simp (
       c.modes_of-modes.ensures,
       end_rules a.radars a.block.now c.if-block-ne32.false,
       sym c.is_picture_code.ensures,
       sym c.is_end_kind.ensures,
-      not-false (eqb (a.block.now ! 0) FD && (c.is_picture_code.result && c.is_end_kind.result)) c.if-not-block-known.false,
-      sym c.are_mode_bytes.ensures ∙ not-false _ c.if-not-are_mode_bytes.false,
-      sym c.is_zero_behind.ensures ∙ not-false _ c.if-not-is_zero_behind.false,
+      c.if-not-block-known.false,
+      sym c.are_mode_bytes.ensures ∙ c.if-not-are_mode_bytes.false,
+      sym c.is_zero_behind.ensures ∙ c.if-not-is_zero_behind.false,
     )

@@ -19,13 +19,13 @@ unfolding are_modes_for
 returns-then-not-is_mode_for c =
     sym (
     places_false _ 0 8 c.loop-i.i (omega arith) (omega arith)
-    (sym c.is_mode_for.ensures ∙ not-true _ c.if-not-is_mode_for.true))
+    (sym c.is_mode_for.ensures ∙ c.if-not-is_mode_for.true))
 
 pub loop-i-preserved : goal.loop-i-preserved
 loop-i-preserved c =
-    let right = sym c.is_mode_for.ensures ∙ not-false _ c.if-not-is_mode_for.false in
+    let right = sym c.is_mode_for.ensures ∙ c.if-not-is_mode_for.false in
     (omega arith, below_more _ _ c.loop-i.invariant.1 right)
 
-pub returns : goal.returns
+pub returns-then-not-is_mode_for : goal.returns
 unfolding are_modes_for
-returns c = sym (places_true _ 0 8 (λ k l m. c.loop-i.invariant.1 k (omega arith)))
+returns-then-not-is_mode_for c = sym (places_true _ 0 8 (λ k l m. c.loop-i.invariant.1 k (omega arith)))

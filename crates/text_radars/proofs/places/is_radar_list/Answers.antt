@@ -16,7 +16,7 @@ pub returns-then-not-is_radar_code : goal.returns-then-not-is_radar_code
 returns-then-not-is_radar_code c =
     rw (
       radars_by_place c.args.radars (search rules),
-      sym c.is_radar_code.ensures ∙ not-true _ c.if-not-is_radar_code.true,
+      sym c.is_radar_code.ensures ∙ c.if-not-is_radar_code.true,
     )
 
 pub loop-i-init : goal.loop-i-init
@@ -26,23 +26,23 @@ pub returns-then-not-radar_follows : goal.returns-then-not-radar_follows
 returns-then-not-radar_follows c =
     rw (
       radars_by_place c.args.radars (search rules),
-      sym c.is_radar_code.ensures ∙ not-false _ c.if-not-is_radar_code.false,
+      sym c.is_radar_code.ensures ∙ c.if-not-is_radar_code.false,
     )
     (sym (
     places_false _ 1 7 c.loop-i.i (omega arith) (omega arith)
-    (sym c.radar_follows.ensures ∙ not-true _ c.if-not-radar_follows.true)))
+    (sym c.radar_follows.ensures ∙ c.if-not-radar_follows.true)))
 
 pub loop-i-preserved : goal.loop-i-preserved
 loop-i-preserved c = (
   omega arith,
   omega arith,
-  below_more _ _ c.loop-i.invariant.2 (λ m. sym c.radar_follows.ensures ∙ not-false _ c.if-not-radar_follows.false),
+  below_more _ _ c.loop-i.invariant.2 (λ m. sym c.radar_follows.ensures ∙ c.if-not-radar_follows.false),
 )
 
-pub returns : goal.returns
-returns c =
+pub returns-then-not-is_radar_code : goal.returns
+returns-then-not-is_radar_code c =
     rw (
       radars_by_place c.args.radars (search rules),
-      sym c.is_radar_code.ensures ∙ not-false _ c.if-not-is_radar_code.false,
+      sym c.is_radar_code.ensures ∙ c.if-not-is_radar_code.false,
     )
     (sym (places_true _ 1 7 (λ k l m. c.loop-i.invariant.2 k (omega arith) m)))

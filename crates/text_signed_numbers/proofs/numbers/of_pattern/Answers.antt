@@ -27,4 +27,4 @@ pub overflow_sub-result-2 : goal.overflow_sub-result-2
 overflow_sub-result-2 c = rw (below c) (record { sfits = omega arith })
 
 pub returns : goal.returns
-returns c = to_z-of_z (sub_result_2 c) ∙ below c ∙ sym (upper c.args.pattern (omega arith) (omega arith))
+returns c = to_z-of_z (overflow_sub-result-2 c) ∙ below c ∙ sym (upper c.args.pattern (omega arith) (omega arith))

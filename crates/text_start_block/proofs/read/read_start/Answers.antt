@@ -26,7 +26,7 @@ returns-then-not-is_start_front c =
     simp (
       c.broken-then-not-is_start_front.ensures,
       start_rules c.args.block.now c.if-block-ne32.false,
-      sym c.is_start_front.ensures ∙ not-true _ c.if-not-is_start_front.true,
+      sym c.is_start_front.ensures ∙ c.if-not-is_start_front.true,
     )
 
 pub returns-then-not-has_digits-has_stops : goal.returns-then-not-has_digits-has_stops
@@ -35,10 +35,10 @@ returns-then-not-has_digits-has_stops c =
     simp (
       c.broken-then-not-has_digits-has_stops.ensures,
       start_rules c.args.block.now c.if-block-ne32.false,
-      sym c.is_start_front.ensures ∙ not-false _ c.if-not-is_start_front.false,
+      sym c.is_start_front.ensures ∙ c.if-not-is_start_front.false,
       sym c.has_digits.ensures,
       sym c.has_stops.ensures,
-      not-true (c.has_digits.result && c.has_stops.result) c.if-not-has_digits-has_stops.true,
+      c.if-not-has_digits-has_stops.true,
     )
 
 -- behind c and stops, the time and the radars are left to look at
@@ -48,17 +48,17 @@ rules_left :
 rules_left c =
     simp (
       start_rules c.args.block.now c.if-block-ne32.false,
-      sym c.is_start_front.ensures ∙ not-false _ c.if-not-is_start_front.false,
+      sym c.is_start_front.ensures ∙ c.if-not-is_start_front.false,
       sym c.has_digits.ensures,
       sym c.has_stops.ensures,
-      not-false (c.has_digits.result && c.has_stops.result) c.if-not-has_digits-has_stops.false,
+      c.if-not-has_digits-has_stops.false,
     )
 
 pub digits_of-requires : goal.digits_of-requires
 digits_of-requires c =
     record {
       chars_len = search rules;
-      digit_places_value = sym c.has_digits.ensures ∙ (and_split c.has_digits.result c.has_stops.result (not-false _ c.if-not-has_digits-has_stops.false)).0;
+      digit_places_value = sym c.has_digits.ensures ∙ (and_split c.has_digits.result c.has_stops.result (c.if-not-has_digits-has_stops.false)).0;
     }
 
 -- the time check was asked once, of the block's digits
@@ -96,15 +96,15 @@ returns-then-not-is_radar_list c =
       c.broken-then-not-is_radar_list.ensures,
       rules_left c,
       (timed c).0,
-      ap (λ (h : Header). is_radar_list h.radars) (sym c.header_of-header.ensures) ∙ sym c.is_radar_list.ensures ∙ not-true _ c.if-not-is_radar_list.true,
+      ap (λ (h : Header). is_radar_list h.radars) (sym c.header_of-header.ensures) ∙ sym c.is_radar_list.ensures ∙ c.if-not-is_radar_list.true,
     )
 
-pub returns : goal.returns
+pub returns-then-block-ne32 : goal.returns
 unfolding start_read header_of
-returns c =
+returns-then-block-ne32 c =
     simp (
       rules_left c,
       (timed c).0,
-      ap (λ (h : Header). is_radar_list h.radars) (sym c.header_of-header.ensures) ∙ sym c.is_radar_list.ensures ∙ not-false _ c.if-not-is_radar_list.false,
+      ap (λ (h : Header). is_radar_list h.radars) (sym c.header_of-header.ensures) ∙ sym c.is_radar_list.ensures ∙ c.if-not-is_radar_list.false,
       c.header_of-header.ensures,
     )

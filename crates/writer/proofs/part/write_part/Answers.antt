@@ -48,15 +48,15 @@ returns-then-part c = simp (outside c.args.part c.if-part.true)
 
 pub returns-then-not-is_writer_input : goal.returns-then-not-is_writer_input
 unfolding writes outcome_of answer_of count_of
-returns-then-not-is_writer_input c = simp (inside c.args.part c.if-part.false, sym c.is_writer_input.ensures ∙ not-true _ c.if-not-is_writer_input.true)
+returns-then-not-is_writer_input c = simp (inside c.args.part c.if-part.false, sym c.is_writer_input.ensures ∙ c.if-not-is_writer_input.true)
 
 pub returns-then-not-is_payload : goal.returns-then-not-is_payload
 unfolding writes outcome_of answer_of count_of
 returns-then-not-is_payload c =
     simp (
       inside c.args.part c.if-part.false,
-      sym c.is_writer_input.ensures ∙ not-false _ c.if-not-is_writer_input.false,
-      sym c.is_payload.ensures ∙ not-true _ c.if-not-is_payload.true,
+      sym c.is_writer_input.ensures ∙ c.if-not-is_writer_input.false,
+      sym c.is_payload.ensures ∙ c.if-not-is_payload.true,
     )
 
 pub returns-then-output-long : goal.returns-then-output-long
@@ -66,26 +66,32 @@ returns-then-output-long c =
     let long = c.part_length-long.ensures ∙ ap (part_length a.part) c.writes_no_echo-noecho.ensures in
     simp (
       inside a.part c.if-part.false,
-      sym c.is_writer_input.ensures ∙ not-false _ c.if-not-is_writer_input.false,
-      sym c.is_payload.ensures ∙ not-false _ c.if-not-is_payload.false,
+      sym c.is_writer_input.ensures ∙ c.if-not-is_writer_input.false,
+      sym c.is_payload.ensures ∙ c.if-not-is_payload.false,
       lt-ltb (length a.output.now) (part_length a.part (writes_no_echo a.part a.payload.now)) (omega (arith, long, c.if-output-long.true)),
     )
 
 pub write_taken-requires : goal.write_taken-requires
 write_taken-requires c =
     let a = c.args in
-    (inside a.part c.if-part.false, (sym c.is_writer_input.ensures ∙ not-false _ c.if-not-is_writer_input.false, (sym c.is_payload.ensures ∙ not-false _ c.if-not-is_payload.false, (c.writes_no_echo-noecho.ensures, omega (arith, c.part_length-long.ensures, c.if-output-long.false)))))
+    record {
+      part_value = inside a.part c.if-part.false;
+      modes_value = sym c.is_writer_input.ensures ∙ c.if-not-is_writer_input.false;
+      payload_value = sym c.is_payload.ensures ∙ c.if-not-is_payload.false;
+      noecho_value = c.writes_no_echo-noecho.ensures;
+      noecho_in_bounds = omega (arith, c.part_length-long.ensures, c.if-output-long.false);
+    }
 
-pub returns : goal.returns
-returns c =
+pub returns-then-part : goal.returns
+returns-then-part c =
     let a = c.args in
     let bytes = part_bytes (written_part a.part a.header a.modes a.payload.now) in
     let known = inside a.part c.if-part.false in
-    let rule = sym c.is_payload.ensures ∙ not-false _ c.if-not-is_payload.false in
+    let rule = sym c.is_payload.ensures ∙ c.if-not-is_payload.false in
     let size = c.part_length-long.ensures ∙ ap (part_length a.part) c.writes_no_echo-noecho.ensures in
     let eight : length a.header.radars ≡ 8 = search (rules, c.well_formed) in
     let modal : length a.modes ≡ 8 = search (rules, c.well_formed) in
     let long = written_long a.part a.header a.modes a.payload.now known eight modal (payload_long a.part a.payload.now rule) ∙ sym size in
     let room = c.if-output-long.false in
-    taken a.part a.header a.modes a.payload.now a.output.now known (sym c.is_writer_input.ensures ∙ not-false _ c.if-not-is_writer_input.false) rule size room
+    taken a.part a.header a.modes a.payload.now a.output.now known (sym c.is_writer_input.ensures ∙ c.if-not-is_writer_input.false) rule size room
     (c.write_taken.ensures ∙ sets_front a.output.now bytes (omega (arith, long, room)) ∙ ap (λ n. bytes ++ drop n a.output.now) long)

@@ -99,7 +99,7 @@ write_datas-requires c =
         omega (
           arith,
           same,
-          ap (part_length a.part) (not-true a.noecho c.if-not-noecho.true),
+          ap (part_length a.part) (c.if-not-noecho.true),
           part_long a.part false c.requires.part_value,
           c.requires.modes_value.1.1.1,
         ),
