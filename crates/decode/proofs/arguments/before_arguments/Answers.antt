@@ -8,6 +8,6 @@ pub returns-then-count-le1 : goal.returns-then-count-le1
 unfolding before_arguments
 returns-then-count-le1 c = simp (c.all_marks.ensures, le-leb _ _ c.if-count-le1.true)
 
-pub returns-then-count-le1 : goal.returns
+pub returns : goal.returns
 unfolding before_arguments
-returns-then-count-le1 c = simp (lt-leb _ _ c.if-count-le1.false)
+returns c = simp (lt-leb _ _ c.if-count-le1.false)

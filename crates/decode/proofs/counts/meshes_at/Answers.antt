@@ -10,8 +10,8 @@ returns-then-level-ge14 c =
     let a = c.args in
     c.meshes_from.ensures ∙ at_top a.grid.now a.level c.if-level-ge14.true
 
-pub returns-then-level-ge14 : goal.returns
-returns-then-level-ge14 c =
+pub returns : goal.returns
+returns c =
     let a = c.args in
     ap answer_of c.less.ensures
     ∙ at_less a.grid.now a.level _ _ c.if-level-ge14.false c.meshes_from-2.ensures c.meshes_from-3.ensures

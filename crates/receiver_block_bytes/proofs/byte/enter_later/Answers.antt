@@ -68,8 +68,8 @@ returns-then-kept c =
     into_grid _ _ _ _ _ _ c.requires kept (sym c.is_taken-kept.ensures ∙ kept) (one_false c.is_end_kind.ensures kept c.if-kept-is_end_kind.false)
     c.grid_place-at.ensures
 
-pub returns-then-kept-is_end_kind : goal.returns
-returns-then-kept-is_end_kind c =
+pub returns : goal.returns
+returns c =
     broken _ _ _ _ _ _ c.requires c.is_taken-kept.ensures c.if-kept.false
 
 pub is_taken-kept-requires : goal.is_taken-kept-requires

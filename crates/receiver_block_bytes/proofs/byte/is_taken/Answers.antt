@@ -73,7 +73,7 @@ returns-then-is_end_kind c =
     end_rule _ _ _ _ c.block_length.ensures c.if-i-block_length.false (sym c.is_start_kind.ensures ∙ c.if-is_start_kind.false)
     (sym c.is_end_kind.ensures ∙ c.if-is_end_kind.true) c.end_takes.ensures
 
-pub returns-then-i-block_length : goal.returns
-returns-then-i-block_length c =
+pub returns : goal.returns
+returns c =
     data_rule _ _ _ _ c.block_length.ensures c.if-i-block_length.false (sym c.is_start_kind.ensures ∙ c.if-is_start_kind.false)
     (sym c.is_end_kind.ensures ∙ c.if-is_end_kind.false) c.part_of_kind.ensures c.is_payload_byte.ensures

@@ -8,6 +8,6 @@ pub returns-then-i-le10 : goal.returns-then-i-le10
 unfolding end_takes
 returns-then-i-le10 c = simp (le-leb _ _ c.if-i-le10.true, c.is_mode_byte.ensures)
 
-pub returns-then-i-le10 : goal.returns
+pub returns : goal.returns
 unfolding end_takes
-returns-then-i-le10 c = simp (lt-leb _ _ c.if-i-le10.false)
+returns c = simp (lt-leb _ _ c.if-i-le10.false)

@@ -43,8 +43,8 @@ pub returns-then-i-le23 : goal.returns-then-i-le23
 returns-then-i-le23 c =
     at_time _ _ _ c.requires.le_i.0 c.if-i-le23.true c.time_takes.ensures
 
-pub returns-then-i-le23 : goal.returns
-returns-then-i-le23 c =
+pub returns : goal.returns
+returns c =
     at_radar _ _ _ c.requires.le_i.0 c.if-i-le23.false c.requires.i_nonzero.1 c.radar_follows.ensures
 
 pub time_takes-requires : goal.time_takes-requires

@@ -95,9 +95,9 @@ returns-then-not-is_possible c =
       seen_value = refl;
     })
 
-pub returns-then-grid-ne20000 : goal.returns
+pub returns : goal.returns
 unfolding seen_after
-returns-then-grid-ne20000 c =
+returns c =
     let a = c.args in
     let d = c.decide-d.ensures in
     let possible = ((sym c.is_possible.ensures) ∙ c.if-not-is_possible.false) in record {

@@ -29,9 +29,9 @@ pub returns-then-f-kind_of : goal.returns-then-f-kind_of
 unfolding is_payload_here
 returns-then-f-kind_of c = simp (← c.kind_of.ensures, ne_eqb _ _ c.if-f-kind_of.true, and-false)
 
-pub returns-then-f-lt3 : goal.returns
+pub returns : goal.returns
 unfolding is_payload_here
-returns-then-f-lt3 c =
+returns c =
     simp (
       le-leb _ _ c.if-f-lt3.false,
       ne_eqb _ _ c.if-f-eq0.false,

@@ -11,5 +11,5 @@ returns-then-count-seen-2 c = simp (due_by_number, c.if-count-seen.false, c.if-c
 pub returns-then-count-seen-3 : goal.returns-then-count-seen-3
 returns-then-count-seen-3 c = simp (due_by_number, c.if-count-seen.false, c.if-count-seen-2.false, c.if-count-seen-3.true)
 
-pub returns-then-count-seen : goal.returns
-returns-then-count-seen c = simp (due_by_number, c.if-count-seen.false, c.if-count-seen-2.false, c.if-count-seen-3.false)
+pub returns : goal.returns
+returns c = simp (due_by_number, c.if-count-seen.false, c.if-count-seen-2.false, c.if-count-seen-3.false)

@@ -10,5 +10,5 @@ returns-then-b-ne253 c = simp (opening_by_number, ne_eqb _ _ c.if-b-ne253.true)
 pub returns-then-count-ne5 : goal.returns-then-count-ne5
 returns-then-count-ne5 c = simp (opening_by_number, ne_eqb _ _ c.if-count-ne5.true, and-false)
 
-pub returns-then-b-ne253 : goal.returns
-returns-then-b-ne253 c = simp (opening_by_number, eq-eqb _ _ c.if-b-ne253.false, eq-eqb _ _ c.if-count-ne5.false)
+pub returns : goal.returns
+returns c = simp (opening_by_number, eq-eqb _ _ c.if-b-ne253.false, eq-eqb _ _ c.if-count-ne5.false)

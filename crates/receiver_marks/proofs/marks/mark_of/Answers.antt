@@ -26,6 +26,6 @@ returns-then-is_picture_code c =
     shl_exact {a = 1} 1 c.place_of.result 32 (lit≤ tt) (omega (arith, c.place_of.ensures, place_small code small)) ∙ one-mul (2 ^ c.place_of.result)
     ∙ ap (λ n. 2 ^ n) place ∙ ap (λ t. cond t (2 ^ index_in code picture_codes) 0) (sym listed)
 
-pub returns-then-is_picture_code : goal.returns
+pub returns : goal.returns
 unfolding mark_of
-returns-then-is_picture_code c = simp (sym c.is_picture_code.ensures ∙ c.if-is_picture_code.false)
+returns c = simp (sym c.is_picture_code.ensures ∙ c.if-is_picture_code.false)

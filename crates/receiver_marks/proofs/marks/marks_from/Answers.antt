@@ -9,6 +9,6 @@ pub returns-then-not-are_marks : goal.returns-then-not-are_marks
 unfolding marks_from
 returns-then-not-are_marks c = simp (sym c.are_marks.ensures ∙ c.if-not-are_marks.true)
 
-pub returns-then-not-are_marks : goal.returns
+pub returns : goal.returns
 unfolding marks_from
-returns-then-not-are_marks c = simp (sym c.are_marks.ensures ∙ c.if-not-are_marks.false)
+returns c = simp (sym c.are_marks.ensures ∙ c.if-not-are_marks.false)

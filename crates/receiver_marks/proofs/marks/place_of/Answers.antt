@@ -16,6 +16,6 @@ pub returns-then-code-lt240 : goal.returns-then-code-lt240
 unfolding place_of
 returns-then-code-lt240 c = simp (c.four_bits-then-code-lt240.ensures, le-ltb _ _ c.if-code-lt208.false, le-ltb _ _ c.if-code-lt224.false, lt-ltb _ _ c.if-code-lt240.true)
 
-pub returns-then-code-lt208 : goal.returns
+pub returns : goal.returns
 unfolding place_of
-returns-then-code-lt208 c = simp (c.four_bits-2.ensures, le-ltb _ _ c.if-code-lt208.false, le-ltb _ _ c.if-code-lt224.false, le-ltb _ _ c.if-code-lt240.false)
+returns c = simp (c.four_bits-2.ensures, le-ltb _ _ c.if-code-lt208.false, le-ltb _ _ c.if-code-lt224.false, le-ltb _ _ c.if-code-lt240.false)

@@ -27,9 +27,9 @@ pub returns-then-not-e : goal.returns-then-not-e
 returns-then-not-e c =
     c.drops.ensures ∙ broken _ _ c.enter_byte-e.ensures (c.if-not-e.true)
 
-pub returns-then-not-e : goal.returns
+pub returns : goal.returns
 unfolding ◌⊕◌
-returns-then-not-e c =
+returns c =
     c.goes_on.ensures
     ∙ rw c.advanced.ensures (kept _ _ c.enter_byte-e.ensures (c.if-not-e.false))
 

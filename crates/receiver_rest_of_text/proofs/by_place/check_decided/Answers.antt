@@ -8,9 +8,9 @@ pub returns-then-b-f : goal.returns-then-b-f
 unfolding check_decided
 returns-then-b-f c = simp (c.goes_on.ensures, c.advanced.ensures, eq-eqb _ _ c.if-b-f.true)
 
-pub returns-then-b-f : goal.returns
+pub returns : goal.returns
 unfolding check_decided
-returns-then-b-f c = simp (c.drops.ensures, ne_eqb _ _ c.if-b-f.false)
+returns c = simp (c.drops.ensures, ne_eqb _ _ c.if-b-f.false)
 
 pub advanced-requires : goal.advanced-requires
 advanced-requires c = c.requires

@@ -9,9 +9,9 @@ pub returns-then-b-eq254 : goal.returns-then-b-eq254
 unfolding eor_decided ◌⊕◌
 returns-then-b-eq254 c = simp (c.goes_on.ensures, c.advanced.ensures, eq-eqb _ _ c.if-b-eq254.true)
 
-pub returns-then-b-eq254 : goal.returns
+pub returns : goal.returns
 unfolding eor_decided ◌⊕◌
-returns-then-b-eq254 c = simp (c.drops.ensures, ne_eqb _ _ c.if-b-eq254.false)
+returns c = simp (c.drops.ensures, ne_eqb _ _ c.if-b-eq254.false)
 
 pub advanced-requires : goal.advanced-requires
 advanced-requires c = c.requires

@@ -53,9 +53,9 @@ returns-then-f-block-3 c =
       eq-eqb _ _ c.if-f-block-3.true,
     )
 
-pub returns-then-f-block : goal.returns
+pub returns : goal.returns
 unfolding text_decided
-returns-then-f-block c =
+returns c =
     simp (
       c.last_decided.ensures,
       sym c.block_length-block.ensures,

@@ -9,6 +9,6 @@ unfolding ended_part
 returns-then-mode_is_highest c =
     simp (c.goes_on.ensures, c.between.ensures, sym c.mode_is_highest.ensures ∙ c.if-mode_is_highest.true)
 
-pub returns-then-mode_is_highest : goal.returns
+pub returns : goal.returns
 unfolding ended_part
-returns-then-mode_is_highest c = simp (c.drops.ensures, sym c.mode_is_highest.ensures ∙ c.if-mode_is_highest.false)
+returns c = simp (c.drops.ensures, sym c.mode_is_highest.ensures ∙ c.if-mode_is_highest.false)

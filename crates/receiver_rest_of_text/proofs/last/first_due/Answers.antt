@@ -9,6 +9,6 @@ pub returns-then-data_texts-eq0 : goal.returns-then-data_texts-eq0
 unfolding first_due
 returns-then-data_texts-eq0 c = simp (eq-eqb _ _ c.if-data_texts-eq0.true, sym c.data_texts.ensures)
 
-pub returns-then-data_texts-eq0 : goal.returns
+pub returns : goal.returns
 unfolding first_due
-returns-then-data_texts-eq0 c = simp (ne_eqb _ _ c.if-data_texts-eq0.false, sym c.data_texts.ensures)
+returns c = simp (ne_eqb _ _ c.if-data_texts-eq0.false, sym c.data_texts.ensures)

@@ -28,9 +28,9 @@ returns-then-is_end_kind c =
       eq-eqb _ _ c.if-b-ne255.false,
     )
 
-pub returns-then-b-ne255 : goal.returns
+pub returns : goal.returns
 unfolding last_decided
-returns-then-b-ne255 c =
+returns c =
     simp (
       c.taken_text.ensures,
       sym c.is_end_kind.ensures ∙ c.if-is_end_kind.false,

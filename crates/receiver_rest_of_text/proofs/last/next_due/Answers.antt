@@ -10,6 +10,6 @@ pub returns-then-k-data_texts : goal.returns-then-k-data_texts
 unfolding next_due
 returns-then-k-data_texts c = simp (lt-ltb _ _ c.if-k-data_texts.true, sym c.data_texts.ensures, add-one)
 
-pub returns-then-k-data_texts : goal.returns
+pub returns : goal.returns
 unfolding next_due
-returns-then-k-data_texts c = simp (le-ltb _ _ c.if-k-data_texts.false, sym c.data_texts.ensures)
+returns c = simp (le-ltb _ _ c.if-k-data_texts.false, sym c.data_texts.ensures)

@@ -29,7 +29,7 @@ returns-then-f-eq0 c =
     let a = c.args in
     at_edge a.s a.grid.now a.bytes.now (eq-eqb _ _ c.if-f-eq0.true) (c.edge_ahead.ensures a.grid.now)
 
-pub returns-then-f-eq0 : goal.returns
-returns-then-f-eq0 c =
+pub returns : goal.returns
+returns c =
     let a = c.args in
     within a.s a.grid.now a.bytes.now (ne_eqb _ _ c.if-f-eq0.false) c.payload_ahead.ensures

@@ -25,8 +25,8 @@ returns-then-not-is_possible c =
       seen_value = refl;
     })
 
-pub returns-then-grid-ne20000 : goal.returns
-returns-then-grid-ne20000 c =
+pub returns : goal.returns
+returns c =
     let a = c.args in
     sliced a.state a.grid.now a.bytes.now (λ j. omega (arith, c.shared_slice_known-1.given j)) c.if-grid-ne20000.false
     (((sym c.is_possible.ensures) ∙ c.if-not-is_possible.false)) _ _ c.take_bytes.ensures

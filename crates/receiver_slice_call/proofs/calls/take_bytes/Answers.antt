@@ -52,8 +52,8 @@ loop-i-preserved c =
     runs_to_byte c.loop-i.invariant c.loop-i-test.true c.decide-d.ensures c.apply.ensures
     (sym c.is_quiet.ensures ∙ c.if-not-is_quiet.false)
 
-pub returns-then-not-is_quiet : goal.returns
-returns-then-not-is_quiet c =
+pub returns : goal.returns
+returns c =
     runs_to_all (runs_to_trans (first_run c.args.state c.args.grid.now c.args.bytes.now c.requires c.past_stretch-first.ensures) c.loop-i.invariant) c.loop-i-test.false
 
 pub overflow_add-i : goal.overflow_add-i

@@ -16,6 +16,6 @@ pub returns-then-is_start_kind-f : goal.returns-then-is_start_kind-f
 unfolding digits_fit
 returns-then-is_start_kind-f c = rw (c.are_digits.ensures, tested c ∙ c.if-is_start_kind-f.true)
 
-pub returns-then-is_start_kind-f : goal.returns
+pub returns : goal.returns
 unfolding digits_fit
-returns-then-is_start_kind-f c = rw (c.none_waits.ensures, tested c ∙ c.if-is_start_kind-f.false)
+returns c = rw (c.none_waits.ensures, tested c ∙ c.if-is_start_kind-f.false)

@@ -80,8 +80,8 @@ returns-then-f-eq0-3 c =
     (sym c.is_kind.ensures ∙ not-false _ c.if-not-is_kind.left)
     (eq-eqb _ _ c.if-f-eq0-3.taken))
 
-pub returns-then-f-eq0-2 : goal.returns
-returns-then-f-eq0-2 c =
+pub returns : goal.returns
+returns c =
     rw (
       c.block_length.ensures,
       c.is_picture_code-coded.ensures,

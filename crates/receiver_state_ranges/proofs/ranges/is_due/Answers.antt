@@ -8,6 +8,6 @@ pub returns-then-part-eq0 : goal.returns-then-part-eq0
 unfolding is_due
 returns-then-part-eq0 c = simp (eq-eqb _ _ c.if-part-eq0.taken)
 
-pub returns-then-part-eq0 : goal.returns
+pub returns : goal.returns
 unfolding is_due
-returns-then-part-eq0 c = simp (ne_eqb _ _ c.if-part-eq0.left, c.is_kind.ensures, c.kind_of.ensures)
+returns c = simp (ne_eqb _ _ c.if-part-eq0.left, c.is_kind.ensures, c.kind_of.ensures)

@@ -19,9 +19,9 @@ returns-then-row-ne0 c =
       sym c.is_start_kind.ensures ∙ c.if-is_start_kind.false,
     )
 
-pub returns-then-is_start_kind : goal.returns
+pub returns : goal.returns
 unfolding kind_decided
-returns-then-is_start_kind c =
+returns c =
     simp (
       c.goes_on.ensures,
       c.onward.ensures,

@@ -39,7 +39,7 @@ returns-then-f-picture c =
     at_17 _ _ _ c.kind_of.ensures (sym c.is_kind.ensures ∙ c.if-not-is_kind.false) c.if-f-b.false
     (ne_eqb _ _ c.if-f-picture.true)
 
-pub returns-then-not-is_kind : goal.returns
-returns-then-not-is_kind c =
+pub returns : goal.returns
+returns c =
     at_0 _ _ _ c.kind_of.ensures (sym c.is_kind.ensures ∙ c.if-not-is_kind.false) c.if-f-b.false
     (eq-eqb _ _ c.if-f-picture.false)

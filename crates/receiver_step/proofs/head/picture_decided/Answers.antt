@@ -14,7 +14,7 @@ unfolding picture_decided
 returns-then-is_picture_code c =
     simp (c.drops.ensures, sym c.is_picture_code.ensures ∙ c.if-is_picture_code.true, sym c.is_marked.ensures ∙ c.if-is_marked.false)
 
-pub returns-then-is_marked : goal.returns
+pub returns : goal.returns
 unfolding picture_decided
-returns-then-is_marked c =
+returns c =
     simp (c.drops-2.ensures, sym c.is_picture_code.ensures ∙ c.if-is_picture_code.false, sym c.is_marked.ensures ∙ c.if-is_marked.false)

@@ -9,6 +9,6 @@ pub returns-then-f-eq0 : goal.returns-then-f-eq0
 unfolding start_decided ◌⊕◌
 returns-then-f-eq0 c = simp (c.begins.ensures, eq-eqb _ _ c.if-f-eq0.true)
 
-pub returns-then-f-eq0 : goal.returns
+pub returns : goal.returns
 unfolding start_decided ◌⊕◌
-returns-then-f-eq0 c = simp (c.begins-2.ensures, ne_eqb _ _ c.if-f-eq0.false)
+returns c = simp (c.begins-2.ensures, ne_eqb _ _ c.if-f-eq0.false)

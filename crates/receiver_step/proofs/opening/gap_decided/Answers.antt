@@ -13,6 +13,6 @@ unfolding gap_decided
 returns-then-b-due c =
     simp (c.goes_on-then-b-due.ensures, c.at_gap-then-b-due.ensures, eq-eqb _ _ c.if-b-due.true, ne_eqb _ _ c.if-f-eq0.false)
 
-pub returns-then-f-eq0 : goal.returns
+pub returns : goal.returns
 unfolding gap_decided
-returns-then-f-eq0 c = simp (c.drops.ensures, ne_eqb _ _ c.if-b-due.false, ne_eqb _ _ c.if-f-eq0.false)
+returns c = simp (c.drops.ensures, ne_eqb _ _ c.if-b-due.false, ne_eqb _ _ c.if-f-eq0.false)

@@ -8,6 +8,6 @@ pub returns-then-f-eq0 : goal.returns-then-f-eq0
 unfolding opened_text
 returns-then-f-eq0 c = simp (c.goes_on.ensures, c.at_first.ensures, eq-eqb _ _ c.if-f-eq0.true)
 
-pub returns-then-f-eq0 : goal.returns
+pub returns : goal.returns
 unfolding opened_text
-returns-then-f-eq0 c = simp (c.begins.ensures, c.at_first-2.ensures, ne_eqb _ _ c.if-f-eq0.false)
+returns c = simp (c.begins.ensures, c.at_first-2.ensures, ne_eqb _ _ c.if-f-eq0.false)

@@ -99,8 +99,8 @@ payload_passed-requires c =
       grid_len = long f (length a.grid.now) c.is_in_payload.ensures c.if-is_in_payload-grid.false;
     }
 
-pub returns-then-is_in_payload-grid : goal.returns
-returns-then-is_in_payload-grid c =
+pub returns : goal.returns
+returns c =
     let a = c.args in
     let size = c.block_length.ensures in
     c.payload_passed.ensures

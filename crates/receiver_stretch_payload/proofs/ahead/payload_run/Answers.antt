@@ -85,8 +85,8 @@ loop-i-preserved c =
     onward : (p i : ℕ) → p + (i + 1) ≡ p + i + 1
     onward p i = omega arith
 
-pub returns-then-not-is_payload_byte : goal.returns
-returns-then-not-is_payload_byte c =
+pub returns : goal.returns
+returns c =
     let a = c.args in
     passed_first a.s a.grid.now a.bytes.now
     (allowed_end _ a.bytes.now c.loop-i.i c.loop-i.invariant.1.0 (drop_of_length-le a.bytes.now c.loop-i-test.false))

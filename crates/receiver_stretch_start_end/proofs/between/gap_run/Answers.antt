@@ -42,8 +42,8 @@ loop-i-preserved c =
           (tested (get_or bytes c.loop-i.i 0) c.due_byte.ensures c.if-b-due_byte.false) c.pushed-seen.ensures c.counted-count.ensures,
     )
 
-pub returns-then-b-due_byte : goal.returns
-returns-then-b-due_byte c =
+pub returns : goal.returns
+returns c =
     let a = c.args in
     waited_done a.s a.bytes.now c.loop-i.invariant.0
     (due_end a.bytes.now c.loop-i.i _ _ c.loop-i.seen c.loop-i.count c.loop-i.invariant.1 (drop_of_length-le a.bytes.now c.loop-i-test.false))

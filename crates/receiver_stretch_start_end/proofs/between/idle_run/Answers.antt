@@ -29,8 +29,8 @@ loop-i-preserved c =
       idle_on a.bytes.now c.loop-i.i c.loop-i.invariant.1 here other,
     )
 
-pub returns-then-b : goal.returns
-returns-then-b c =
+pub returns : goal.returns
+returns c =
     let a = c.args in
     waited_done a.s a.bytes.now c.loop-i.invariant.0
     (idle_end a.bytes.now c.loop-i.i c.loop-i.invariant.1 (drop_of_length-le a.bytes.now c.loop-i-test.false)) c.advanced_state-2.ensures

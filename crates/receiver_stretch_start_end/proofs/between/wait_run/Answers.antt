@@ -38,6 +38,6 @@ pub returns-then-is_gap : goal.returns-then-is_gap
 returns-then-is_gap c =
     gap_wait _ _ (sym c.is_idle.ensures ∙ c.if-is_idle.false) (sym c.is_gap.ensures ∙ c.if-is_gap.true) c.gap_run.ensures
 
-pub returns-then-is_idle : goal.returns
-returns-then-is_idle c =
+pub returns : goal.returns
+returns c =
     no_wait _ _ (sym c.is_idle.ensures ∙ c.if-is_idle.false) (sym c.is_gap.ensures ∙ c.if-is_gap.false)

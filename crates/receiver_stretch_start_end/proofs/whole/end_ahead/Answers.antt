@@ -33,8 +33,8 @@ pub slice_bounds-seen_behind-end : goal.slice_bounds-seen_behind-end
 slice_bounds-seen_behind-end c =
     sym (length-take-le 34 c.args.bytes.now (omega (arith, c.requires.in_bounds.0)))
 
-pub returns-then-is_gap-picture : goal.returns
-returns-then-is_gap-picture c =
+pub returns : goal.returns
+returns c =
     let a = c.args in
     rw c.with_modes-state.ensures
     (end_on a.s a.bytes.now c.is_gap.ensures c.kind_of.ensures c.if-is_gap-picture.false c.check_byte-check.ensures c.read_end-read.ensures c.if-bytes-check.false

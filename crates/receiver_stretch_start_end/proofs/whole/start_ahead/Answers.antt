@@ -27,8 +27,8 @@ pub slice_bounds-seen_behind-end : goal.slice_bounds-seen_behind-end
 slice_bounds-seen_behind-end c =
     sym (length-take-le 34 c.args.bytes.now (omega (arith, c.requires.count_value.1.0)))
 
-pub returns-then-bytes-check : goal.returns
-returns-then-bytes-check c =
+pub returns : goal.returns
+returns c =
     let a = c.args in
     start_on a.s a.bytes.now c.check_byte-check.ensures c.read_start-read.ensures c.if-bytes-check.false c.requires.frame_value c.requires.count_value.0 c.requires.count_value.1.0
     (λ j. omega (arith, c.shared_slice_known-1.given j)) c.requires.count_value.1.1 c.seen_behind-seen.ensures

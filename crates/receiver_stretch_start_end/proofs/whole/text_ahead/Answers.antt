@@ -92,6 +92,6 @@ end_ahead-requires c =
       bytes_value = sym c.is_marked.ensures ∙ c.if-not-is_marked.false;
     }
 
-pub returns-then-bytes-ends_opening : goal.returns
-returns-then-bytes-ends_opening c =
+pub returns : goal.returns
+returns c =
     end_text _ _ c.ends_opening.ensures c.is_marked.ensures c.if-bytes-ends_opening.false c.if-not-is_marked.false (sym c.is_idle.ensures ∙ c.if-is_idle.false) c.end_ahead.ensures

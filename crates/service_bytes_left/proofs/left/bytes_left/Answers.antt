@@ -39,8 +39,8 @@ overflow_sub-result c =
       place_in_text _ (sym c.is_possible.ensures ∙ c.if-not-is_possible.false) c.if-f-eq0-2.false,
     )
 
-pub returns-then-not-is_possible : goal.returns
+pub returns : goal.returns
 unfolding bytes_left rest_length answer_of
-returns-then-not-is_possible c =
+returns c =
     rw (sym c.is_possible.ensures ∙ c.if-not-is_possible.false, ne_eqb _ _ c.if-f-eq0.false, ne_eqb _ _ c.if-f-eq0-2.false)
     (ap left (omega (arith, c.block_length.ensures)))

@@ -39,8 +39,8 @@ loop-at-preserved c =
       rw (c.loop-at.invariant.2, c.count_past_dry-count.ensures) (stretch_on a.grid.now c.loop-at.at 160 fits a.level),
     )
 
-pub returns-then-level-eq0 : goal.returns
-returns-then-level-eq0 c =
+pub returns : goal.returns
+returns c =
     let a = c.args in
     let all : c.loop-at.at ≡ 20000 = omega (arith, c.loop-at-test.false) in
     c.loop-at.invariant.2 ∙ ap (λ n. count_to a.grid.now a.level (2 * n)) all

@@ -11,9 +11,9 @@ returns-then-b-eq0 c = record {
       even_value = omega arith;
     }
 
-pub returns-then-b-eq0 : goal.returns
+pub returns : goal.returns
 unfolding odd_level even_level
-returns-then-b-eq0 c = record {
+returns c = record {
       odd_value = omega arith;
       even_value = omega arith;
     }

@@ -49,9 +49,9 @@ returns-then-mesh-eq1 c =
       eq-eqb _ _ c.if-mesh-eq1.true,
     )
 
-pub returns-then-grid-ne20000 : goal.returns
+pub returns : goal.returns
 unfolding answer_of mesh_level level_of even_level
-returns-then-grid-ne20000 c =
+returns c =
     simp (
       eq-eqb _ _ c.if-grid-ne20000.false,
       sym c.has_no_level_15.ensures ∙ c.if-not-has_no_level_15.false,

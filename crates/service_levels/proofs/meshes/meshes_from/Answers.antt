@@ -29,9 +29,9 @@ returns-then-level-gt14 c =
       lt-leb c.args.level 14 (omega arith),
     )
 
-pub returns-then-grid-ne20000 : goal.returns
+pub returns : goal.returns
 unfolding answer_of meshes_from
-returns-then-grid-ne20000 c =
+returns c =
     simp (
       eq-eqb _ _ c.if-grid-ne20000.false,
       sym c.has_no_level_15.ensures ∙ c.if-not-has_no_level_15.false,

@@ -28,9 +28,9 @@ overlay_bytes-requires c =
     let a = c.args in
     one_length a.first.now a.second.now a.third.now c.if-first-second.false
 
-pub returns-then-first-second : goal.returns
+pub returns : goal.returns
 unfolding outcome_of overlaid
-returns-then-first-second c =
+returns c =
     let a = c.args in
     simp (
       no_grids a.first.now a.second.now a.third.now ∙ c.if-first-second.false,

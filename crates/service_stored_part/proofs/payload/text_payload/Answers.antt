@@ -33,8 +33,8 @@ has_place c =
     payload_place _ (sym c.is_undamaged_part.ensures ∙ c.if-not-is_undamaged_part.false) c.part_of_kind-number.ensures c.no_echo_of.ensures
     c.data_texts-last.ensures c.data_block_length.ensures c.args.k c.if-k-last.false
 
-pub returns-then-not-is_undamaged_part : goal.returns
-returns-then-not-is_undamaged_part c = (has_place c).given
+pub returns : goal.returns
+returns c = (has_place c).given
 
 pub overflow_sub-size : goal.overflow_sub-size
 overflow_sub-size c = omega (arith, has_place c)

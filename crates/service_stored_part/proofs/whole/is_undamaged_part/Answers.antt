@@ -18,8 +18,8 @@ pub feed_all-fed-requires : goal.feed_all-fed-requires
 unfolding zeros
 feed_all-fed-requires c = refl
 
-pub returns-then-bytes-lt80 : goal.returns
-returns-then-bytes-lt80 c =
+pub returns : goal.returns
+returns c =
     let bytes = c.args.bytes.now in
     ap₂ (λ a n. eqb a 3 && eqb (length bytes) n) c.feed_all-fed.ensures.answer_value
     (c.part_length.ensures ∙ ap₂ part_length c.part_of_kind-part.ensures (ap (λ (s : State). s.header.noecho) c.feed_all-fed.ensures.state_value))

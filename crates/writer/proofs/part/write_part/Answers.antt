@@ -82,8 +82,8 @@ write_taken-requires c =
       noecho_in_bounds = omega (arith, c.part_length-long.ensures, c.if-output-long.false);
     }
 
-pub returns-then-part : goal.returns
-returns-then-part c =
+pub returns : goal.returns
+returns c =
     let a = c.args in
     let bytes = part_bytes (written_part a.part a.header a.modes a.payload.now) in
     let known = inside a.part c.if-part.false in
