@@ -20,7 +20,11 @@ returns-then-level-eq0 c =
 pub count_past_dry-count-requires : goal.count_past_dry-count-requires
 count_past_dry-count-requires c =
     let a = c.args in
-    (omega (arith, c.if-level-eq0.false), omega (arith, stretch_length a.grid.now c.loop-at.at 160 (omega arith)))
+    record {
+      le_level = omega (arith, c.if-level-eq0.false);
+      level_bound = omega arith;
+      bytes_len_bound = omega (arith, stretch_length a.grid.now c.loop-at.at 160 (omega arith));
+    }
 
 pub overflow_add-count : goal.overflow_add-count
 overflow_add-count c =

@@ -26,7 +26,7 @@ loop-i-preserved c =
     let taken = c.loop-i-test.true in (
       omega (arith, taken),
       rw (c.higher-highest.ensures, c.higher-highest_even.ensures, c.split-halves.ensures.even_value)
-          (levels_on c.loop-i.highest c.loop-i.highest-even (grid ! i)
+          (levels_on c.loop-i.highest c.loop-i.highest_even (grid ! i)
           ∙ ap (λ t. t && is_intensity_byte (grid ! i)) c.loop-i.invariant.1
           ∙ every_on grid i taken is_intensity_byte),
     )

@@ -58,9 +58,3 @@ returns c =
       no_mesh c.args.mesh ∙ c.if-mesh.false,
       ne_eqb _ _ c.if-mesh-eq1.false,
     )
-
-pub overflow_cast-result : goal.overflow_cast-result
-overflow_cast-result c = omega (arith, c.shared_slice_known-2-1.given ((c.args.mesh - 1) / 2))
-
-pub overflow_cast-result-2 : goal.overflow_cast-result-2
-overflow_cast-result-2 c = omega (arith, c.shared_slice_known-2-1.given ((c.args.mesh - 1) / 2))
