@@ -1,12 +1,8 @@
 -- The highest byte and the highest even level so far say whether the bytes so far have no level 15. Assumes nothing.
-use mathlib.Core.Path.{◌≡◌, refl, ap, ◌∙◌}
+use mathlib.Core.Path.{refl, ap, ◌∙◌}
 use mathlib.Core.Bool.{◌&&◌}
-use Prim.Native.Nat.{◌-◌, ◌≤◌}
 use native.Mathlib.Omega.{arith}
-use lib.Dec.{leb}
-use lib.ListN.{length, take}
 use lib.Seq.{take_all}
-use borrow.Author.Rules.{rules}
 use Rattle.general_laws.specs.Bytes.{◌!◌, every}
 use Rattle.text.specs.DataBlock.{is_intensity_byte}
 use Rattle.general_laws.proofs.Lists.{every_on}

@@ -1,9 +1,6 @@
 -- The refusals in their order; then the half of the byte in which the mesh stands. Assumes nothing.
-use mathlib.Core.Path.{sym, ap, ◌∙◌}
-use mathlib.Core.Bool.{not}
-use Prim.Native.Nat.{◌-◌, ◌/◌}
+use mathlib.Core.Path.{sym, ◌∙◌}
 use native.Mathlib.Omega.{arith}
-use borrow.Author.Rules.{rules}
 use borrow.Author.Tests.{eq-eqb, ne_eqb}
 use Rattle.text.specs.DataBlock.{odd_level, even_level}
 use Rattle.service_levels.specs.Meshes.{level_of, mesh_level}

@@ -1,7 +1,6 @@
 -- The refusals in their order, which leave the third grid as it was; then the higher levels. Assumes nothing.
-use mathlib.Core.Path.{sym, ap, ap₂, ◌∙◌}
-use mathlib.Core.Bool.{not, ◌&&◌}
-use borrow.Author.Rules.{rules}
+use mathlib.Core.Path.{sym, ap₂, ◌∙◌}
+use mathlib.Core.Bool.{◌&&◌}
 use Rattle.service_overlay_spec.specs.Overlay.{overlaid}
 use Rattle.service_overlay.specs.Returned.{outcome_of}
 use Rattle.text_laws.proofs.Payload.{intensity_is_payload}
