@@ -50,9 +50,9 @@ shape_of-output c =
     let a = c.args in
     ap length c.loop-i.invariant.1 ∙ length-sets a.output.now a.at (take c.loop-i.i a.bytes.now)
 
-pub returns-then-output-bytes : goal.returns
+pub returns : goal.returns
 unfolding put_at
-returns-then-output-bytes c =
+returns c =
     let a = c.args in
     rw (le-leb (a.at + length a.bytes.now) (length a.output.now) (omega (arith, c.if-output-bytes-2.false, c.if-output-bytes.false)))
     (c.loop-i.invariant.1 ∙ ap (sets a.output.now a.at) (take_all c.loop-i.i a.bytes.now (omega (arith, c.loop-i-test.false))))

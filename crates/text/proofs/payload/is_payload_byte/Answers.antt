@@ -15,6 +15,6 @@ pub returns-then-part-eq3 : goal.returns-then-part-eq3
 unfolding odd_level even_level is_intensity_byte is_top_byte is_quality_byte is_payload_byte
 returns-then-part-eq3 c = simp (ne_eqb _ _ c.if-part-eq1.false, ne_eqb _ _ c.if-part-eq2.false, eq-eqb _ _ c.if-part-eq3.true)
 
-pub returns-then-part-eq1 : goal.returns
+pub returns : goal.returns
 unfolding odd_level even_level is_intensity_byte is_top_byte is_quality_byte is_payload_byte
-returns-then-part-eq1 c = simp (ne_eqb _ _ c.if-part-eq1.false, ne_eqb _ _ c.if-part-eq2.false, ne_eqb _ _ c.if-part-eq3.false)
+returns c = simp (ne_eqb _ _ c.if-part-eq1.false, ne_eqb _ _ c.if-part-eq2.false, ne_eqb _ _ c.if-part-eq3.false)

@@ -24,9 +24,9 @@ returns-then-month c =
       sym (either_in false c.args.month (4 ∷ 6 ∷ 9 ∷ 11 ∷ [])) ∙ c.if-month.true,
     )
 
-pub returns-then-is_leap_year : goal.returns
+pub returns : goal.returns
 unfolding days_in
-returns-then-is_leap_year c =
+returns c =
     simp (
       ne_eqb _ _ c.if-month-eq2.false,
       sym (either_in false c.args.month (4 ∷ 6 ∷ 9 ∷ 11 ∷ [])) ∙ c.if-month.false,

@@ -39,8 +39,8 @@ not_begun day g days e l b = omega arith
 pub returns-then-near-eq0 : goal.returns-then-near-eq0
 returns-then-near-eq0 c = (omega (arith, counted 0), omega (arith, counted 3))
 
-pub returns-then-near-eq0 : goal.returns
-returns-then-near-eq0 c =
+pub returns : goal.returns
+returns c =
     let day = c.args.day in
     let g = day * 400 / 146097 in (
       begun day g (days_before_year (g - 1)) refl (omega arith) (bound (g - 1)),

@@ -29,6 +29,6 @@ pub returns-then-is_minute : goal.returns-then-is_minute
 unfolding moment_of
 returns-then-is_minute c = rw (c.moment_at.ensures, said c, asked c)
 
-pub returns-then-is_minute : goal.returns
+pub returns : goal.returns
 unfolding moment_of
-returns-then-is_minute c = rw (ap is_minute (sym (to_z-of_z c.ranges.minute)) ∙ sym c.is_minute.ensures ∙ c.if-is_minute.false)
+returns c = rw (ap is_minute (sym (to_z-of_z c.ranges.minute)) ∙ sym c.is_minute.ensures ∙ c.if-is_minute.false)

@@ -24,8 +24,8 @@ returns-then-digits-i-gt9 c =
 pub loop-i-preserved : goal.loop-i-preserved
 loop-i-preserved c = (omega arith, below_more _ _ c.loop-i.invariant.1 (le-leb _ _ c.if-digits-i-gt9.false))
 
-pub returns-then-digits-i-gt9 : goal.returns
-returns-then-digits-i-gt9 c =
+pub returns : goal.returns
+returns c =
     sym (
     every_by_place (λ d. leb d 9) 12 c.args.digits (search rules)
     ∙ places_true _ 0 12 (λ k l m. c.loop-i.invariant.1 k (omega arith)))

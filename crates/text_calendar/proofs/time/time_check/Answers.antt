@@ -75,6 +75,6 @@ returns-then-small-is_moment c =
     let f : SFits w64 c.minute_of.result = search rules in
     rw (to_z-of_z f, read c, sym (timed c) ∙ c.if-small-is_moment.true)
 
-pub returns-then-small-is_moment : goal.returns
+pub returns : goal.returns
 unfolding time_check
-returns-then-small-is_moment c = rw (sym (timed c) ∙ c.if-small-is_moment.false)
+returns c = rw (sym (timed c) ∙ c.if-small-is_moment.false)

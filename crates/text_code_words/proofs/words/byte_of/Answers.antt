@@ -12,6 +12,6 @@ pub returns-then-low-ge-NO_DIGIT : goal.returns-then-low-ge-NO_DIGIT
 unfolding byte_of
 returns-then-low-ge-NO_DIGIT c = simp (lt-leb _ _ c.if-high-ge-NO_DIGIT.false, le-leb _ _ c.if-low-ge-NO_DIGIT.true)
 
-pub returns-then-high-ge-NO_DIGIT : goal.returns
+pub returns : goal.returns
 unfolding byte_of
-returns-then-high-ge-NO_DIGIT c = simp (lt-leb _ _ c.if-high-ge-NO_DIGIT.false, lt-leb _ _ c.if-low-ge-NO_DIGIT.false)
+returns c = simp (lt-leb _ _ c.if-high-ge-NO_DIGIT.false, lt-leb _ _ c.if-low-ge-NO_DIGIT.false)

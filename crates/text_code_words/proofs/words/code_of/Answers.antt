@@ -8,6 +8,6 @@ pub returns-then-word-ne2 : goal.returns-then-word-ne2
 unfolding code_of
 returns-then-word-ne2 c = simp (ne_eqb _ _ c.if-word-ne2.true)
 
-pub returns-then-word-ne2 : goal.returns
+pub returns : goal.returns
 unfolding code_of
-returns-then-word-ne2 c = simp (c.byte_of.ensures, c.digit-2.ensures, c.digit.ensures, eq-eqb _ _ c.if-word-ne2.false)
+returns c = simp (c.byte_of.ensures, c.digit-2.ensures, c.digit.ensures, eq-eqb _ _ c.if-word-ne2.false)

@@ -27,6 +27,6 @@ pub returns-then-letter-3 : goal.returns-then-letter-3
 unfolding digit_of
 returns-then-letter-3 c = simp (c.if-letter.false, c.if-letter-2.false, c.if-letter-3.true)
 
-pub returns-then-letter : goal.returns
+pub returns : goal.returns
 unfolding digit_of
-returns-then-letter c = simp (c.if-letter.false, c.if-letter-2.false, c.if-letter-3.false)
+returns c = simp (c.if-letter.false, c.if-letter-2.false, c.if-letter-3.false)

@@ -25,5 +25,5 @@ loop-i-preserved c =
     let right = sym c.is_mode_byte.ensures ∙ c.if-not-is_mode_byte.false in
     (omega arith, below_more _ _ c.loop-i.invariant.1 right)
 
-pub returns-then-not-is_mode_byte : goal.returns
-returns-then-not-is_mode_byte c = sym (places_true _ 0 8 (λ k l m. c.loop-i.invariant.1 k (omega arith)))
+pub returns : goal.returns
+returns c = sym (places_true _ 0 8 (λ k l m. c.loop-i.invariant.1 k (omega arith)))

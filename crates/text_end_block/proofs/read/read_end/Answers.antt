@@ -54,9 +54,9 @@ returns-then-not-is_zero_behind c =
       sym c.is_zero_behind.ensures ∙ c.if-not-is_zero_behind.true,
     )
 
-pub returns-then-block-ne32 : goal.returns
+pub returns : goal.returns
 unfolding end_read
-returns-then-block-ne32 c =
+returns c =
     let a = c.args in
     simp (
       c.modes_of-modes.ensures,

@@ -114,8 +114,8 @@ returns-then-text-le10 c =
       le-leb _ _ c.if-text-le10.true,
     ))
 
-pub returns-then-part-eq0 : goal.returns
-returns-then-part-eq0 c =
+pub returns : goal.returns
+returns c =
     let a = c.args in
     rw (← rule a.part a.text)
     (simp (

@@ -36,8 +36,8 @@ returns-then-low-eq15 c =
       eq-eqb _ _ c.if-low-eq15.true,
     ))
 
-pub returns-then-part-eq0 : goal.returns
-returns-then-part-eq0 c =
+pub returns : goal.returns
+returns c =
     rw (← rule c.args.b (search rules))
     (simp (
       sym c.part_of_kind-part.ensures,

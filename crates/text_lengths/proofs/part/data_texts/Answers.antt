@@ -33,8 +33,8 @@ returns-then-part c =
     rw (← rule a.noecho a.part (search rules))
     (simp (c.if-noecho-part.false, ne_eqb _ _ c.if-part-eq1.false, c.if-part.true))
 
-pub returns-then-noecho-part : goal.returns
-returns-then-noecho-part c =
+pub returns : goal.returns
+returns c =
     let a = c.args in
     rw (← rule a.noecho a.part (search rules))
     (simp (c.if-noecho-part.false, ne_eqb _ _ c.if-part-eq1.false, c.if-part.false))

@@ -16,6 +16,6 @@ pub returns-then-part-eq3 : goal.returns-then-part-eq3
 unfolding data_block_length data_texts payload_length
 returns-then-part-eq3 c = sym (ap payload_length c.if-part-eq3.true)
 
-pub returns-then-part-eq1 : goal.returns
+pub returns : goal.returns
 unfolding data_block_length data_texts payload_length
-returns-then-part-eq1 c = simp (ne_eqb _ _ c.if-part-eq1.false, ne_eqb _ _ c.if-part-eq2.false, ne_eqb _ _ c.if-part-eq3.false)
+returns c = simp (ne_eqb _ _ c.if-part-eq1.false, ne_eqb _ _ c.if-part-eq2.false, ne_eqb _ _ c.if-part-eq3.false)

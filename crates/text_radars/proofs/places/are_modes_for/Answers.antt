@@ -26,6 +26,6 @@ loop-i-preserved c =
     let right = sym c.is_mode_for.ensures ∙ c.if-not-is_mode_for.false in
     (omega arith, below_more _ _ c.loop-i.invariant.1 right)
 
-pub returns-then-not-is_mode_for : goal.returns
+pub returns : goal.returns
 unfolding are_modes_for
-returns-then-not-is_mode_for c = sym (places_true _ 0 8 (λ k l m. c.loop-i.invariant.1 k (omega arith)))
+returns c = sym (places_true _ 0 8 (λ k l m. c.loop-i.invariant.1 k (omega arith)))

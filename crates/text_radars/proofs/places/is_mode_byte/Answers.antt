@@ -9,6 +9,6 @@ pub returns-then-radar-eq0 : goal.returns-then-radar-eq0
 unfolding is_mode_byte
 returns-then-radar-eq0 c = simp (eq-eqb _ _ c.if-radar-eq0.true)
 
-pub returns-then-radar-eq0 : goal.returns
+pub returns : goal.returns
 unfolding is_mode_byte has_mode
-returns-then-radar-eq0 c = simp (ne_eqb _ _ c.if-radar-eq0.false, c.mode_of.ensures)
+returns c = simp (ne_eqb _ _ c.if-radar-eq0.false, c.mode_of.ensures)

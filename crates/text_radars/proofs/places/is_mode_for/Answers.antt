@@ -7,6 +7,6 @@ pub returns-then-radar-eq0 : goal.returns-then-radar-eq0
 unfolding is_mode_for
 returns-then-radar-eq0 c = simp (eq-eqb _ _ c.if-radar-eq0.true)
 
-pub returns-then-radar-eq0 : goal.returns
+pub returns : goal.returns
 unfolding is_mode_for
-returns-then-radar-eq0 c = simp (ne_eqb _ _ c.if-radar-eq0.false)
+returns c = simp (ne_eqb _ _ c.if-radar-eq0.false)

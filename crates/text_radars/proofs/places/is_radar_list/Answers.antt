@@ -39,8 +39,8 @@ loop-i-preserved c = (
   below_more _ _ c.loop-i.invariant.2 (λ m. sym c.radar_follows.ensures ∙ c.if-not-radar_follows.false),
 )
 
-pub returns-then-not-is_radar_code : goal.returns
-returns-then-not-is_radar_code c =
+pub returns : goal.returns
+returns c =
     rw (
       radars_by_place c.args.radars (search rules),
       sym c.is_radar_code.ensures ∙ c.if-not-is_radar_code.false,

@@ -56,5 +56,5 @@ returns-then-n-lt0 c =
     let f = c.ranges.n in
     rw (distance c, to_z_pos w64 f.sfits) (one_more c.args.n (rw (to_z-of_z f) at c.if-n-lt0.true))
 
-pub returns-then-n-lt0 : goal.returns
-returns-then-n-lt0 c = ap nat_abs (to_z-of_z c.ranges.n)
+pub returns : goal.returns
+returns c = ap nat_abs (to_z-of_z c.ranges.n)

@@ -99,9 +99,9 @@ returns-then-not-is_radar_list c =
       ap (λ (h : Header). is_radar_list h.radars) (sym c.header_of-header.ensures) ∙ sym c.is_radar_list.ensures ∙ c.if-not-is_radar_list.true,
     )
 
-pub returns-then-block-ne32 : goal.returns
+pub returns : goal.returns
 unfolding start_read header_of
-returns-then-block-ne32 c =
+returns c =
     simp (
       rules_left c,
       (timed c).0,

@@ -15,6 +15,6 @@ pub returns-then-m-eq3 : goal.returns-then-m-eq3
 unfolding mode_byte
 returns-then-m-eq3 c = simp (ne_eqb _ _ c.if-m-eq1.false, ne_eqb _ _ c.if-m-eq2.false, eq-eqb _ _ c.if-m-eq3.true)
 
-pub returns-then-m-eq1 : goal.returns
+pub returns : goal.returns
 unfolding mode_byte
-returns-then-m-eq1 c = simp (ne_eqb _ _ c.if-m-eq1.false, ne_eqb _ _ c.if-m-eq2.false, ne_eqb _ _ c.if-m-eq3.false)
+returns c = simp (ne_eqb _ _ c.if-m-eq1.false, ne_eqb _ _ c.if-m-eq2.false, ne_eqb _ _ c.if-m-eq3.false)
