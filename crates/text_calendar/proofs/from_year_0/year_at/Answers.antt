@@ -1,8 +1,7 @@
 -- The year at which the loop stands has begun on the day. Assumes nothing.
-use borrow.Author.Rules.{rules}
 use native.Mathlib.Omega.{arith}
 use mathlib.Core.Path.{◌≡◌, sym}
-use Prim.Native.Nat.{ℕ, ◌+◌, ◌-◌, ◌<◌, ◌≤◌}
+use Prim.Native.Nat.{ℕ, ◌+◌, ◌<◌, ◌≤◌}
 use Rattle.text_calendar_spec.specs.Minutes.{days_before_year}
 use Rattle.text_calendar_spec.proofs.Laws.{in_years, year_found}
 use Rattle.text_calendar.proofs.from_year_0.year_at.Goals as goal

@@ -20,43 +20,43 @@ returns-then-small-is_moment c =
     let ds = c.args.digits in
     let f : SFits w64 c.minute_of.result = search rules in
     let timed : (c.are_digits-small.result && c.is_moment.result) ≡ is_time ds =
-        simp (
-          c.are_digits-small.ensures,
-          c.two_digits.ensures,
-          c.two_digits-2.ensures,
-          c.two_digits-month.ensures,
-          c.two_digits-day.ensures,
-          c.two_digits-hour.ensures,
-          c.two_digits-minute.ensures,
-          c.is_moment.ensures,
-          year,
-        ) in
+    simp (
+      c.are_digits-small.ensures,
+      c.two_digits.ensures,
+      c.two_digits-2.ensures,
+      c.two_digits-month.ensures,
+      c.two_digits-day.ensures,
+      c.two_digits-hour.ensures,
+      c.two_digits-minute.ensures,
+      c.is_moment.ensures,
+      year,
+    ) in
     let read : c.minute_of.result ≡ minute_in ds =
-        c.minute_of.ensures
-        ∙ simp (
-          c.two_digits.ensures,
-          c.two_digits-2.ensures,
-          c.two_digits-month.ensures,
-          c.two_digits-day.ensures,
-          c.two_digits-hour.ensures,
-          c.two_digits-minute.ensures,
-          year,
-        ) in
+    c.minute_of.ensures
+    ∙ simp (
+      c.two_digits.ensures,
+      c.two_digits-2.ensures,
+      c.two_digits-month.ensures,
+      c.two_digits-day.ensures,
+      c.two_digits-hour.ensures,
+      c.two_digits-minute.ensures,
+      year,
+    ) in
     rw (to_z-of_z f, read, sym timed ∙ c.if-small-is_moment.true)
 
 pub returns : goal.returns
 unfolding time_check is_time year_of
 returns c =
     let timed : (c.are_digits-small.result && c.is_moment.result) ≡ is_time c.args.digits =
-        simp (
-          c.are_digits-small.ensures,
-          c.two_digits.ensures,
-          c.two_digits-2.ensures,
-          c.two_digits-month.ensures,
-          c.two_digits-day.ensures,
-          c.two_digits-hour.ensures,
-          c.two_digits-minute.ensures,
-          c.is_moment.ensures,
-          year,
-        ) in
+    simp (
+      c.are_digits-small.ensures,
+      c.two_digits.ensures,
+      c.two_digits-2.ensures,
+      c.two_digits-month.ensures,
+      c.two_digits-day.ensures,
+      c.two_digits-hour.ensures,
+      c.two_digits-minute.ensures,
+      c.is_moment.ensures,
+      year,
+    ) in
     rw (sym timed ∙ c.if-small-is_moment.false)
