@@ -1,8 +1,6 @@
 -- The stretch is where the part's start text and the number of the text put it. Assumes nothing.
 use mathlib.Core.Path.{sym, ◌∙◌}
 use native.Mathlib.Omega.{arith}
-use borrow.Author.Rules.{rules}
-use borrow.Author.Tests.{not-true, not-false}
 use Rattle.service_stored_part.proofs.PayloadPlaces.{PayloadPlace, long, none, payload_place, damaged}
 use Rattle.service_stored_part.proofs.payload.text_payload.Reads as reads
 use Rattle.service_stored_part.proofs.payload.text_payload.Lts as lts
