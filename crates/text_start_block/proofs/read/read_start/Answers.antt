@@ -1,6 +1,10 @@
 -- Each way out follows the rules in their order: the first that fails breaks the block. Assumes nothing.
 use mathlib.Core.Path.{◌≡◌, sym, ap, ap₂, ◌∙◌}
 use mathlib.Core.Bool.{true, ◌&&◌}
+use mathlib.Core.List.{List}
+use Prim.Native.Nat.{ℕ}
+use lib.Dec.{eqb}
+use lib.ListN.{length}
 use borrow.Author.Tests.{ne_eqb}
 use borrow.Author.Rules.{rules}
 use mir.Syntax.{w64}
