@@ -6,3 +6,6 @@ use Rattle.try_traffic.proofs.runs.both.Goals as goal
 
 pub slice_bounds-by_bytes-end : goal.slice_bounds-by_bytes-end
 slice_bounds-by_bytes-end g c = sym (length-take-le _ _ (count_most c.slice_call-result.result _ _ _ _ c.slice_call-result.ensures.grid_after))
+
+pub returns : goal.returns
+returns g c = search (rules, count_most c.slice_call-result.result _ _ _ _ c.slice_call-result.ensures.grid_after)
