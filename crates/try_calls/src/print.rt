@@ -1,46 +1,46 @@
-// Words and numbers.
-use std::io;
-use std::io::Write;
+// Words and numbers on standard output.
+use libc::STDOUT_FILENO;
 use text_signed_numbers::numbers::distance;
 
 // The word that a line begins with
-pub fn word<W: Write>(out: &mut W, w: &[u8]) -> io::Result<()> {
-    out.write_all(w)
+pub fn word(w: &[u8]) {
+    io::write_all(STDOUT_FILENO, w);
 }
 
-pub fn end_line<W: Write>(out: &mut W) -> io::Result<()> {
-    out.write_all(b"\n")
+pub fn end_line() {
+    io::write_all(STDOUT_FILENO, b"\n");
 }
 
 // A number, with a space before it
-pub fn number<W: Write>(out: &mut W, n: u64) -> io::Result<()> {
-    write!(out, " {n}")
+pub fn number(n: u64) {
+    io::write_all(STDOUT_FILENO, b" ");
+    io::print_decimal(STDOUT_FILENO, n);
 }
 
-pub fn byte<W: Write>(out: &mut W, n: u8) -> io::Result<()> {
-    number(out, n as u64)
+pub fn byte(n: u8) {
+    number(n as u64);
 }
 
 // A minute, which may be below 0, with a space before it (Request 111)
-pub fn signed<W: Write>(out: &mut W, n: i64) -> io::Result<()> {
+pub fn signed(n: i64) {
     if n < 0 {
-        let below = distance(n);
-        return write!(out, " -{below}");
+        io::write_all(STDOUT_FILENO, b" -");
+        io::print_decimal(STDOUT_FILENO, distance(n));
+        return;
     }
-    number(out, distance(n))
+    number(distance(n));
 }
 
 // The numbers of a list
-pub fn list<W: Write>(out: &mut W, l: &[u8]) -> io::Result<()> {
+pub fn list(l: &[u8]) {
     let mut i = 0;
     while i < l.len() {
-        byte(out, l[i])?;
+        byte(l[i]);
         i += 1;
     }
-    Ok(())
 }
 
 // The digits of a time
-pub fn twelve<W: Write>(out: &mut W, digits: [u8; 12]) -> io::Result<()> {
-    list(out, &digits)
+pub fn twelve(digits: [u8; 12]) {
+    list(&digits);
 }

@@ -37,22 +37,13 @@ mod refusals;
 mod samples;
 mod sums;
 
-use std::io;
-use std::io::{BufWriter, Write};
-
-fn lines<W: Write>(out: &mut W) -> io::Result<()> {
-    levels::lines(out)?;
-    levels::dry_lines(out)?;
-    refusals::lines(out)?;
-    overlays::lines(out)?;
-    clocks::lines(out)?;
-    payloads::lines(out)?;
-    left::lines(out)?;
-    made_up::lines(out)
-}
-
-fn main(rt: HostRuntime) -> io::Result<()> {
-    let mut out = BufWriter::new(rt.alloc(), rt.stdout())?;
-    lines(&mut out)?;
-    out.flush()
+fn main() {
+    levels::lines();
+    levels::dry_lines();
+    refusals::lines();
+    overlays::lines();
+    clocks::lines();
+    payloads::lines();
+    left::lines();
+    made_up::lines();
 }

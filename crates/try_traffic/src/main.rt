@@ -17,68 +17,52 @@ mod out;
 mod runs;
 
 use crate::runs::FeedResult;
+use libc::STDIN_FILENO;
 use receiver_marks::marks::all_marks;
 use receiver_state::state::fresh;
-use std::io;
-use std::io::{BufWriter, Read, Write};
 
 // Reads once, as much as there is, and gives it to the receiver
-fn read_and_feed<R: Read, W: Write>(
-    input: &mut R,
+fn read_and_feed(
     fed: FeedResult,
     grid: &mut [u8],
     other: &mut [u8],
     buffer: &mut [u8],
-    out: &mut W,
-) -> io::Result<FeedResult> {
-    let n = input.read(buffer)?;
-    if n == 0 {
+    out: &mut [u8],
+) -> FeedResult {
+    let read = libc::read(STDIN_FILENO, buffer);
+    if read <= 0 {
         let sliced = fed.sliced;
         let single = fed.single;
-        return Ok(FeedResult {
+        return FeedResult {
             sliced,
             single,
             total: fed.total,
             goes_on: false,
-        });
+        };
     }
+    let n = io::count(read, buffer);
     runs::feed(fed, grid, other, &buffer[..n], out)
 }
 
-// A proved loop has to end, and nothing says that the input does: the loop has more turns than any
-// run uses up
-fn feed_all<R: Read, W: Write>(
-    input: &mut R,
-    grid: &mut [u8],
-    other: &mut [u8],
-    buffer: &mut [u8],
-    out: &mut W,
-) -> io::Result<()> {
+// A proved loop has to end, and nothing says that the input does: the loop counts its turns down,
+// from a number that no run uses up
+fn main() {
+    let mut grid = [0u8; 20000];
+    let mut other = [0u8; 20000];
+    let mut buffer = io::large_buffer();
+    let mut out = io::large_buffer();
     let mut fed = FeedResult {
         sliced: fresh(all_marks()),
         single: fresh(all_marks()),
         total: 0,
         goes_on: true,
     };
-    for _ in 0..u64::MAX {
-        fed = read_and_feed(input, fed, grid, other, buffer, out)?;
+    let mut turns = u64::MAX;
+    while turns > 0 {
+        fed = read_and_feed(fed, &mut grid, &mut other, &mut buffer, &mut out);
         if !fed.goes_on {
-            break;
+            return;
         }
+        turns -= 1;
     }
-    Ok(())
-}
-
-fn main(rt: HostRuntime) -> io::Result<()> {
-    let mut grid = [0u8; 20000];
-    let mut other = [0u8; 20000];
-    let mut buffer = [0u8; 65536];
-    let mut out = BufWriter::new(rt.alloc(), rt.stdout())?;
-    feed_all(
-        &mut rt.stdin(),
-        &mut grid,
-        &mut other,
-        &mut buffer,
-        &mut out,
-    )
 }

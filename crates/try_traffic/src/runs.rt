@@ -1,22 +1,28 @@
 // A stretch of the stream through the slice call, and through the byte call with a state and a grid
 // of its own.
-ghost use Rattle.std.specs.Prelude.{◌≤◌, length, IfOk};
+ghost use Rattle.std.specs.Prelude.{◌≤◌, length};
 
 use crate::held::part_lines;
-use crate::out::{spaced, word};
+use crate::out::{flush, spaced, word};
 use receiver_byte_call::calls::byte_call;
 use receiver_slice_call::calls::slice_call;
 use receiver_state::answer::number_of;
 use receiver_state::state::State;
-use std::io;
-use std::io::Write;
 
-// Both states after a slice call, and how many bytes it took
+// The byte call's state, and how many bytes wait in the output
+#[derive(Clone, Copy)]
+struct ByteCallsResult {
+    state: State,
+    used: usize,
+}
+
+// Both states after a slice call, how many bytes it took, and how many wait in the output
 #[derive(Clone, Copy)]
 struct BothResult {
     sliced: State,
     single: State,
     count: usize,
+    used: usize,
 }
 
 // Both states, how many bytes they have taken, and whether the input goes on
@@ -38,25 +44,33 @@ fn more(total: u64, count: usize) -> u64 {
 }
 
 // The line of an answer other than 0
-fn answer_line<W: Write>(out: &mut W, call: &[u8], total: u64, answer: u8) -> io::Result<()> {
+fn answer_line(out: &mut [u8], used: usize, call: &[u8], total: u64, answer: u8) -> usize
+    requires { used ≤ length out.old }
+    ensures { result ≤ length out.old }
+{
     if answer == 0 {
-        return Ok(());
+        return used;
     }
-    word(out, call)?;
-    spaced(out, total)?;
-    spaced(out, answer as u64)?;
-    word(out, b"\n")
+    let named = word(out, used, call);
+    let counted = spaced(out, named, total);
+    let answered = spaced(out, counted, answer as u64);
+    word(out, answered, b"\n")
 }
 
 // The bytes one by one
-fn by_bytes<W: Write>(
+fn by_bytes(
     state: State,
     total: u64,
     grid: &mut [u8],
     bytes: &[u8],
-    out: &mut W,
-) -> io::Result<State> {
+    out: &mut [u8],
+    used: usize,
+) -> ByteCallsResult
+    requires { used ≤ length out.old }
+    ensures { result.used ≤ length out.old }
+{
     let mut s = state;
+    let mut waiting = used;
     let mut i = 0;
     while i < bytes.len() {
         let result = byte_call(s, grid, bytes[i]);
@@ -65,55 +79,64 @@ fn by_bytes<W: Write>(
         s = next;
         let answer = result.answer;
         let n = number_of(answer);
-        answer_line(out, b"byte", more(total, i), n)?;
-        part_lines(out, answer, s, grid)?;
+        let lined = answer_line(out, waiting, b"byte", more(total, i), n);
+        waiting = part_lines(out, lined, answer, s, grid);
     }
-    Ok(s)
+    ByteCallsResult {
+        state: s,
+        used: waiting,
+    }
 }
 
 // One slice call, after the byte call has had the bytes that it takes
-fn both<W: Write>(
+fn both(
     states: FeedResult,
     grid: &mut [u8],
     other: &mut [u8],
     bytes: &[u8],
-    out: &mut W,
-) -> io::Result<BothResult>
-    ensures { IfOk result (λ r. r.count ≤ length bytes.now) }
+    out: &mut [u8],
+    used: usize,
+) -> BothResult
+    requires { used ≤ length out.old }
+    ensures { (result.used ≤ length out.old) × (result.count ≤ length bytes.now) }
 {
     let before = states.sliced;
     let single = states.single;
     let result = slice_call(before, grid, bytes);
     let count = result.count;
-    let after = by_bytes(single, states.total, other, &bytes[..count], out)?;
+    let byte_calls = by_bytes(single, states.total, other, &bytes[..count], out, used);
+    let after = byte_calls.state;
     let sliced = result.state;
     let answer = result.answer;
     let n = number_of(answer);
     let total = more(states.total, count);
-    answer_line(out, b"slice", total, n)?;
-    part_lines(out, answer, sliced, grid)?;
-    Ok(BothResult {
+    let lined = answer_line(out, byte_calls.used, b"slice", total, n);
+    let waiting = part_lines(out, lined, answer, sliced, grid);
+    BothResult {
         sliced,
         single: after,
         count,
-    })
+        used: waiting,
+    }
 }
 
 // All bytes, by as many calls as that takes
-pub fn feed<W: Write>(
+pub fn feed(
     fed: FeedResult,
     grid: &mut [u8],
     other: &mut [u8],
     bytes: &[u8],
-    out: &mut W,
-) -> io::Result<FeedResult> {
+    out: &mut [u8],
+) -> FeedResult {
     let mut now = fed;
+    let mut used = 0;
     let mut at = 0;
     while at < bytes.len() {
-        let result = both(now, grid, other, &bytes[at..], out)?;
+        let result = both(now, grid, other, &bytes[at..], out, used);
         let sliced = result.sliced;
         let single = result.single;
         let count = result.count;
+        used = result.used;
         at += count;
         now = FeedResult {
             sliced,
@@ -122,9 +145,10 @@ pub fn feed<W: Write>(
             goes_on: 0 < count,
         };
         if count == 0 {
-            break;
+            flush(out, used);
+            return now;
         }
     }
-    out.flush()?;
-    Ok(now)
+    flush(out, used);
+    now
 }

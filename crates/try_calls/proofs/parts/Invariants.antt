@@ -6,7 +6,7 @@ use borrow.Author.Rules.{rules}
 use Rattle.try_calls.proofs.parts.Given as goal
 
 abbrev pub invariant-loop-at : goal.invariant-loop-at
-invariant-loop-at g l = (l.at ≤ length l.input) × (length l.grid ≡ length l.initial.grid)
+invariant-loop-at l = (l.at ≤ length l.input) × (length l.grid ≡ length l.initial.grid)
 
 abbrev pub decreases-loop-at : goal.decreases-loop-at
-decreases-loop-at g l = length l.input - l.at
+decreases-loop-at l = length l.input - l.at

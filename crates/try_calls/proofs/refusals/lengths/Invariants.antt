@@ -6,7 +6,7 @@ use borrow.Author.Rules.{rules}
 use Rattle.try_calls.proofs.refusals.lengths.Given as goal
 
 abbrev pub invariant-loop-i : goal.invariant-loop-i
-invariant-loop-i g l = length l.space ≡ length l.initial.space
+invariant-loop-i l = length l.space ≡ length l.initial.space
 
 abbrev pub decreases-loop-i : goal.decreases-loop-i
-decreases-loop-i g l = 3 - l.i
+decreases-loop-i l = 3 - l.i

@@ -6,7 +6,7 @@ use borrow.Author.Rules.{rules}
 use Rattle.try_calls.proofs.runs.by_slices.Given as goal
 
 abbrev pub invariant-loop-k : goal.invariant-loop-k
-invariant-loop-k g l = length l.grid ≡ length l.initial.grid
+invariant-loop-k l = length l.grid ≡ length l.initial.grid
 
 abbrev pub decreases-loop-k : goal.decreases-loop-k
-decreases-loop-k g l = 7 - l.k
+decreases-loop-k l = 7 - l.k

@@ -8,7 +8,7 @@ use Rattle.receiver_slice_call.proofs.Laws.{count_most}
 use Rattle.try_calls.proofs.runs.give.Given as goal
 
 abbrev pub invariant-loop-at : goal.invariant-loop-at
-invariant-loop-at g l = (l.at ≤ l.to) × (length l.grid ≡ length l.initial.grid)
+invariant-loop-at l = (l.at ≤ l.to) × (length l.grid ≡ length l.initial.grid)
 
 abbrev pub decreases-loop-at : goal.decreases-loop-at
-decreases-loop-at g l = l.to - l.at
+decreases-loop-at l = l.to - l.at

@@ -7,16 +7,16 @@ use borrow.Author.Rules.{rules}
 use Rattle.try_services.proofs.overlays.altered.Goals as goal
 
 pub slice_bounds-first-end : goal.slice_bounds-first-end
-slice_bounds-first-end g c = simp length-set (omega arith)
+slice_bounds-first-end c = simp length-set (omega arith)
 
 pub slice_bounds-line-end : goal.slice_bounds-line-end
-slice_bounds-line-end g c = sym (length-take-le _ _ (simp length-set (omega arith)))
+slice_bounds-line-end c = sym (length-take-le _ _ (simp length-set (omega arith)))
 
 pub slice_bounds-second-end : goal.slice_bounds-second-end
-slice_bounds-second-end g c = simp length-set (omega arith)
+slice_bounds-second-end c = simp length-set (omega arith)
 
 pub slice_bounds-line-end-2 : goal.slice_bounds-line-end-2
-slice_bounds-line-end-2 g c = sym (length-take-le _ _ (simp length-set (omega arith)))
+slice_bounds-line-end-2 c = sym (length-take-le _ _ (simp length-set (omega arith)))
 
 pub slice_bounds-line-end-3 : goal.slice_bounds-line-end-3
-slice_bounds-line-end-3 g c = sym (length-take-le _ _ (search rules))
+slice_bounds-line-end-3 c = sym (length-take-le _ _ (search rules))

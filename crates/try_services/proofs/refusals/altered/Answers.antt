@@ -7,7 +7,7 @@ use borrow.Author.Rules.{rules}
 use Rattle.try_services.proofs.refusals.altered.Goals as goal
 
 pub slice_bounds-grid-end : goal.slice_bounds-grid-end
-slice_bounds-grid-end g c = simp length-set (omega arith)
+slice_bounds-grid-end c = simp length-set (omega arith)
 
 pub slice_bounds-asked-end : goal.slice_bounds-asked-end
-slice_bounds-asked-end g c = sym (length-take-le _ _ (simp length-set (omega arith)))
+slice_bounds-asked-end c = sym (length-take-le _ _ (simp length-set (omega arith)))
