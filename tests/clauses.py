@@ -124,18 +124,18 @@ def placed():
 
 # name -> the crate that defines it, of the definitions that a file uses
 def crates_of(text):
-    used = re.findall(r"use Rattle·(\w+)(?:·\w+)?\.specs[\w.·]*\.\{([^}]*)\}", text)
+    used = re.findall(r"use Rattle\.(\w+)\.specs[\w.]*\.\{([^}]*)\}", text)
     return {name: crate for crate, names in used for name in names.split(", ")}
 
 
 # The definition that a contract is about: what the result, read by a definition or not, or a lent slice at its exit
-# equals; how many bytes are waited for; or one that has the function's own name, as `payloadAhead` of `payload_ahead`
-READ = r"(?:\w+ )?r(?: \(now \(\w+ \.exit\)\))? ≡ |now \(\w+ \.exit\) ≡ |Waited s \("
+# equals; how many bytes are waited for; or one that has the function's own name, as `payload_ahead` has
+READ = r"(?:\w+ )?result(?: \w+\.new)? ≡ |\w+\.new ≡ |Waited s \("
 
 
 def definitions_in(contract, function):
     plain = function.replace("_", "")
-    own = [name for name in re.findall(r"\w+", contract) if name.lower() in (plain, "is" + plain)]
+    own = [name for name in re.findall(r"\w+", contract) if name.lower().replace("_", "") in (plain, "is" + plain)]
     return {*re.findall(rf"^(?:{READ})(\w+)", contract), *own}
 
 
@@ -147,7 +147,7 @@ def equal():
         crates = crates_of(text)
         for line in text.splitlines():
             function = (re.match(CODE, line) or [None, function])[1]
-            contract = re.match(r" *ensures \{ λ r\. ⌜ (.*) ⌝ \}", line)
+            contract = re.match(r" *ensures(?: \w+)? \{ (.*) \}", line)
             for name in sorted(definitions_in(contract[1], function)) if contract else ():
                 if name in crates and crates[name] != "general_laws" and name != "run":
                     yield (".rt", path.relative_to(ROOT).parts[1], function), (".antt", crates[name], name)

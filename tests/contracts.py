@@ -14,7 +14,7 @@ import sys
 
 from layers import NAME, ROOT, code_of, folders, listed
 
-SYMBOL = r"(?:_≡_|_<_|_≤_|_\+_|length|getD|set|take|drop|now)"
+SYMBOL = r"(?:◌≡◌|◌<◌|◌≤◌|◌\+◌|length|get_or|slice_index|set|take|drop|now)"
 FUNCTION = r"\bpub\s+(?:(?:const|unsafe|extern)\s+)*fn\s+(\w+)"
 # A symbol declared, and another thing that is brought in as one
 DECLARED = rf"(?m)^ *(?:(?:unfoldable|abbrev|pub) +)*(?:({SYMBOL}) *:|(?:data|record) +({SYMBOL}) )"

@@ -3,7 +3,7 @@
     python3 tests/decode.py --stream > crates/decode/stdin
     python3 tests/decode.py --args > crates/decode/args
     python3 tests/decode.py > crates/decode/stdout
-    python3 tests/decode.py --try target/bin/decode
+    python3 tests/decode.py --try crates/decode/out/decode
 
 What a part has is what the model of 01's receiver with Requests 101 and 111, tests/model/receiver.py, holds at
 answer 3; its time is that of the minute in the header.

@@ -2,7 +2,7 @@
 """Compares the proved programs with a second model of 01, on hostile traffic.
 
     python3 tests/differential.py [--seconds 60] [--seed 1] [--length 200000]
-                                  [--bin target/bin] [--programs listen,try_traffic]
+                                  [--bin FOLDER] [--programs listen,try_traffic]
 
 The model, in C under tests/second/, was written from 01 and the requests alone.  It is built
 into a temporary folder with $CC (else cc).  For seed, seed + 1, ... until the
@@ -113,7 +113,7 @@ def arguments():
     parser.add_argument("--seconds", type=float, default=60, help="go on for so long")
     parser.add_argument("--seed", type=int, default=1, help="the first seed")
     parser.add_argument("--length", type=int, default=200000, help="about so many bytes a stream")
-    parser.add_argument("--bin", type=Path, default=HERE.parent / "target" / "bin", metavar="FOLDER")
+    parser.add_argument("--bin", type=Path, metavar="FOLDER", help="where the programs lie, if not in crates/NAME/out")
     parser.add_argument("--programs", default=",".join(MODEL_OF), metavar="NAMES", help="which to compare")
     parser.add_argument("--corpus", nargs=3, metavar=("SEED", "LENGTH", "FOLDER"))
     return parser.parse_args()
@@ -518,9 +518,9 @@ def chosen_programs(options):
     for name in options.programs.split(","):
         if name not in MODEL_OF:
             fail(f"no program {name}; there are {', '.join(MODEL_OF)}")
-        programs[name] = options.bin.resolve() / name
+        programs[name] = (options.bin or HERE.parent / "crates" / name / "out").resolve() / name
         if not programs[name].is_file():
-            fail(f"{programs[name]} is missing: `rt check` builds it")
+            fail(f"{programs[name]} is missing: `rt run` in its folder builds it")
     return programs
 
 

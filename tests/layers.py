@@ -6,9 +6,9 @@ A crate's name tells its layer: `general_laws` below 1, `text..` 1, `receiver_..
 them stand `terminal` and the programs, `listen`, `decode`, `resend` and `try_..`. Of another crate, in the same
 layer too, sources, specs/ and proofs/ may cite
 
-    Rattle·CRATE.specs..                         its definitions
-    Rattle·CRATE.proofs.Laws..                   its laws; of a crate `.._laws` any module of proofs/
-    Rattle·CRATE.proofs.MODULE.FUNCTION.Reads    the contract of a public function; `.Statement` as well
+    Rattle.CRATE.specs..                         its definitions
+    Rattle.CRATE.proofs.Laws..                   its laws; of a crate `.._laws` any module of proofs/
+    Rattle.CRATE.proofs.MODULE.FUNCTION.Reads    the contract of a public function; `.Statement` as well
     CRATE::MODULE::ITEM                          in sources: a public function, struct, enum or const
 
 A crate cites none of a layer above its own, and no program; definitions cite no proof. crates.txt lists each folder of crates/, and for each
@@ -25,7 +25,7 @@ from functools import cache
 from pathlib import Path
 
 ROOT = Path(__file__).resolve().parent.parent
-KIT = {"io", "libc", "os", "bytes", "check", "std"}
+KIT = {"core", "std"}
 LAYERS = [r"general_laws", r"text(_\w+)?", r"receiver_\w+|writer(_\w+)?", r"service_\w+", r"terminal",
           r"listen|decode|resend|try_\w+"]
 TITLES = ["below layer 1", "layer 1", "layer 2", "layer 3", "above layer 3", "a program"]
@@ -38,7 +38,7 @@ ASIDE = {".rt": TEXT + r"|'(?:\\[^'\n]+|[^'\\\n])'|//[^\n]*|/\*.*?\*/",
 # In antt: a name, where a path begins, and one into a crate, with the names that a `use` line takes or its other name
 NAME = r'(?:[^\s(){}.;,@"«»]+|«[^»]*»)'
 BEGIN = r'(?<![^\s(){};,@"«»])(?:package\.)?'
-PATH = rf"(\buse\s+)?{BEGIN}Rattle·(\w+)(·\w+)?((?:\.{NAME})*)(?:\.\{{([^}}]*)\}}|\s+as\s+({NAME}))?"
+PATH = rf"(\buse\s+)?{BEGIN}Rattle\.(\w+)((?:\.{NAME})*)(?:\.\{{([^}}]*)\}}|\s+as\s+({NAME}))?"
 
 # A citation by `crate`: where it stands, what it cites of which crate, and whether that is there for others
 Citation = namedtuple("Citation", "crate place cited path allowed")
@@ -124,7 +124,7 @@ def names_in(braces, brought=False):
 # (place, crate, path, whether it is allowed) of each path of antt, and of those through a module that `use` names
 def antt_paths(code):
     for m in re.finditer(PATH, code):
-        use, crate, library, path, names, other = m.groups()
+        use, crate, path, names, other = m.groups()
         path = path.split(".")[1:]
         ends = [(m.start(), name) for name in names_in(names)] if names else [(m.start(), "")]
         if use and names is None and path:
@@ -132,15 +132,14 @@ def antt_paths(code):
             ends += [(n.start(), n[1][1:]) for n in re.finditer(through, code)]
         for start, end in ends:
             whole = [*path, *filter(None, end.split("."))]
-            yield start, crate, ".".join([f"Rattle·{crate}{library or ''}", *whole]), \
-                library is None and is_for_others(crate, whole)
+            yield start, crate, ".".join([f"Rattle.{crate}", *whole]), is_for_others(crate, whole)
 
 
 # The same of Rust's paths. One that begins with what the source declares or brings in begins with no crate
 def rust_paths(code):
     own = {"crate", "self", "super", *re.findall(r"\b(?:mod|struct|enum)\s+(\w+)", code),
            *re.findall(r"\buse\s+\w+::[^;]*?(\w+)\s*;", code)}
-    for m in re.finditer(r"((?<!ghost )\buse\s+)?(?<![\w:.·])(?:::)?(\w+)((?:::\w+)*)", code):
+    for m in re.finditer(r"((?<!ghost )\buse\s+)?(?<![\w:.])(?:::)?(\w+)((?:::\w+)*)", code):
         path = tuple(m[3].split("::")[1:])
         if m[2] not in own and (m[1] or path and m[2] in folders()):
             yield m.start(2), m[2], m[2] + m[3], any(path[:i] in items(m[2]) for i in range(1, len(path) + 1))
@@ -171,7 +170,7 @@ def not_for_others():
 def proofs_in_specs():
     """Definitions that rest on a proof of their own crate, and so would pass it on."""
     return [f"{path.relative_to(ROOT)}: cites a proof" for path in sorted(ROOT.glob("crates/*/specs/**/*.antt"))
-            if "·proofs.proofs." in code_of(path)]
+            if f"Rattle.{path.relative_to(ROOT).parts[1]}.proofs." in code_of(path)]
 
 
 def of_layers(crates):
@@ -229,7 +228,7 @@ def unused(crates):
                 if (crate, used) not in pairs)
     for laws in sorted(ROOT.glob("crates/*/proofs/Laws.antt")):
         file, names = laws.relative_to(ROOT), declared(code_of(laws))
-        idle = sorted(name for name in names if f"Rattle·{file.parts[1]}.proofs.Laws.{name}" not in paths)
+        idle = sorted(name for name in names if f"Rattle.{file.parts[1]}.proofs.Laws.{name}" not in paths)
         if len(idle) == len(names):
             yield f"{file}: no other crate cites it"
         elif idle:

@@ -42,7 +42,7 @@ def rows():
 
 
 def is_proof(path):
-    return any(ROOT.glob(f"crates/*/{path}.antt")) or any(ROOT.glob(f"crates/*/{path}/Proof.antt"))
+    return any(ROOT.glob(f"crates/*/{path}.antt")) or any(ROOT.glob(f"crates/*/{path}/*.antt"))
 
 
 def main():

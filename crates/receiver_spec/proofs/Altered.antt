@@ -59,6 +59,7 @@ quiet_append quiet0 r = r
 quiet_append (quiet1 e q) r = quiet1 e (quiet_append q r)
 
 free_altered : {v : ℕ} {xs ys : List ℕ} → v ≢ FD → Free FD xs → AlteredTo v xs ys → Free FD ys
+free_altered {v = v} {ys = ys} n free0 x5 = elim x5 [ ]
 free_altered n (free1 h r) (here f) = free1 n r
 free_altered n (free1 h r) (there a) = free1 h (free_altered n r a)
 
@@ -111,7 +112,8 @@ module _ (R : Rules) (L : RuleLaws R) where
   not_complete_never : {s u : Machine R} (h : List ℕ) (b : ℕ) (t : List ℕ) → NotComplete R s (h ++ (b ∷ t)) u → (move R (run R s h) b).answer ≢ 3
   unfolding run
   not_complete_never [] b t (go e n c) f = n (sym (ap (λ o. o.answer) e) ∙ f)
-  not_complete_never (x ∷ h) b t (go e n c) f = not_complete_never h b t c (sym (ap (λ o. (move R (run R o.machine h) b).answer) e) ∙ f)
+  not_complete_never {s = s} {u = u} (x ∷ h) b t (go {n = n'} {a = a} e n c) f =
+      not_complete_never {s = n'} h b t c (sym (ap (λ o. (move R (run R o.machine h) b).answer) e) ∙ f)
 
   -- no text under way and no part open
   abbrev idle : List ℕ → Held → Machine R
@@ -221,7 +223,7 @@ module _ (R : Rules) (L : RuleLaws R) where
       by_if Plain (ends_opening m.seen b) (λ _. by_if Plain (eqb m.place 0) (λ _. no_3 tt) (λ _. no_3 tt))
       (λ _. by_if Plain (eqb m.place 0)
       (λ _. by_if Plain (eqb m.part 0) (λ _. no_3 tt) (λ _. by_if Plain (eqb b (due_byte m.seen)) (λ _. no_3 tt) (λ _. no_3 tt)))
-      (λ _. by_if Plain (eqb m.place 1) (λ _. by_if Plain (is_picture b) (λ _. no_3 tt) (λ _. record { unended = L.no_picture b }))
+      (λ _. by_if Plain (eqb m.place 1) (λ _. by_if Plain (is_picture b) (λ _. no_3 tt) (λ _. record { unended = L.no_picture_lem b }))
       (λ _. by_if Plain (eqb m.place 2) (λ _. plain_kind m b)
       (λ _. by_if Plain (ltb m.place (long m.kind)) (λ _. by_if Plain (takes m.kind m.held m.place b) (λ _. no_3 tt) (λ _. no_3 tt))
       (λ _. by_if Plain (eqb m.place (long m.kind)) (λ _. by_if Plain (eqb b EOR) (λ _. no_3 tt) (λ _. no_3 tt))
@@ -293,12 +295,12 @@ module _ (R : Rules) (L : RuleLaws R) where
   not_complete_body : {k : ℕ} {c e : Held} {i : ℕ} {xs : List ℕ} (q p d x : ℕ) (w : List ℕ) → Quiet w xs → BlockContents R k c i xs e → 3 ≤ i → i + length xs ≤ long k
       → NotComplete R (mk R w i k q p d x c) xs (mk R (pushes w xs) (i + length xs) k q p d (x ⊕ xor_all xs) e)
   not_complete_body {k} {c} {i} q p d x w quiet0 contents_end h l = rw (add-zero i, xor_nil x) stop
-  not_complete_body {k} {e} {i} q p d x w (quiet1 n qt) (contents_byte {c} {x = b} {xs} g r) h l =
+  not_complete_body {k} {c} {e} {i} q p d x w (quiet1 n qt) (contents_byte {x = b} {xs} g r) h l =
       let far : suc i + length xs ≡ i + suc (length xs) = omega arith in
       go (take_byte R L w i k q p d x c b n h (omega arith) g) (other 0 tt)
       (subst (λ y. NotComplete R (mk R (push w b) (suc i) k q p d (x ⊕ b) (enter k c i b)) xs (mk R (pushes (push w b) xs) (i + suc (length xs)) k q p d y e)) (xor_cons x b xs)
       (subst (λ j. NotComplete R (mk R (push w b) (suc i) k q p d (x ⊕ b) (enter k c i b)) xs (mk R (pushes (push w b) xs) j k q p d ((x ⊕ b) ⊕ xor_all xs) e)) far
-      (not_complete_body q p d (x ⊕ b) (push w b) qt r (omega arith) (omega arith))))
+      (not_complete_body {c = enter k c i b} {i = suc i} q p d (x ⊕ b) (push w b) qt r (omega arith) (omega arith))))
 
   -- from the kind to the end of the block, and to the check byte
   module _ {k : ℕ} {c e : Held} {xs : List ℕ} (q p d : ℕ) (hk : is_kind k ≡ true) (l : 3 + length xs ≡ long k) (r : BlockContents R k c 3 xs e) where
@@ -338,7 +340,7 @@ module _ (R : Rules) (L : RuleLaws R) where
       (λ e. idle_quiet w blank (quiet1 e (quiet1 (no_opening _ TPAD tt) quiet0)))
     where
       hit : IdleAfter (lost R seen_control) (FD ∷ TPAD ∷ [])
-      hit = idle_go (take_opening R L 0 0 blank) (other 0 tt) (idle_go (bad_picture 0 0 TPAD blank (λ e. omega arith) L.tpad_picture) (L.no_picture TPAD) (idle_quiet _ blank quiet0))
+      hit = idle_go (take_opening R L 0 0 blank) (other 0 tt) (idle_go (bad_picture 0 0 TPAD blank (λ e. omega arith) L.tpad_picture) (L.no_picture_lem TPAD) (idle_quiet _ blank quiet0))
 
   idle_block : {v k : ℕ} {c e : Held} {xs ys : List ℕ} (q p d : ℕ) → v ≢ FD → is_picture q ≡ true → is_kind k ≡ true → 3 + length xs ≡ long k → BlockContents R k c 3 xs e
       → AlteredTo v (xs ++ closing (check_byte (block R q k xs))) ys → IdleAfter (mk R (seen_kind q k) 3 k q p d (check_at3 q k) c) ys
@@ -357,6 +359,7 @@ module _ (R : Rules) (L : RuleLaws R) where
           idle_go (eor_move q p d hk l r) (other 0 tt)
           (idle_go (bad_check (push w EOR) k q p d z e v (only_fd (push w EOR) v nv) (L.long_3 k hk) (λ f. n (sym f))) (other 20 tt)
           (idle_quiet _ blank (quiet1 (no_opening _ TPAD tt) quiet0)))
+      ends (there (there (there x15))) = elim x15 [ ]
       ends (there (there (here n))) =
           idle_go (eor_move q p d hk l r) (other 0 tt)
           (idle_go (check_move q p d hk l r) (other 0 tt)
@@ -379,6 +382,7 @@ module _ (R : Rules) (L : RuleLaws R) where
       ends : {us : List ℕ} (w : List ℕ) → AlteredTo v (closing z) us → IdleAfter (lost R w) us
       ends w (here n) = idle_go (idle_move w v blank (only_fd w v nv)) (other 0 tt) (two _ _)
       ends w (there (here n)) = idle_quiet w blank (quiet1 (no_opening w EOR tt) (quiet1 (only_fd _ v nv) (quiet1 (no_opening _ TPAD tt) quiet0)))
+      ends w (there (there (there x15))) = elim x15 [ ]
       ends w (there (there (here n))) =
           idle_quiet w blank (quiet1 (no_opening w EOR tt) (quiet1 (only_stx EOR (take 4 w) z (λ e. omega arith)) (quiet1 (only_fd _ v nv) quiet0)))
 
@@ -402,10 +406,10 @@ module _ (R : Rules) (L : RuleLaws R) where
     is_next : {e : Held} → p ≢ 0 → is_start k ≡ false → k ≡ due_kind p d → q ≡ picture_of c → BlockContents R k c 3 xs e → Role p d c q k xs
 
   module _ (p d q k : ℕ) (xs : List ℕ) (c : Held) (hq : is_picture q ≡ true) (hk : is_kind k ≡ true) (l : 3 + length xs ≡ long k) where
-    abbrev check_byte : ℕ
-    check_byte = check_byte (block R q k xs)
+    abbrev own_check : ℕ
+    own_check = check_byte (block R q k xs)
 
-    quiet_tail : Role p d c q k xs → (w : List ℕ) → Quiet w (xs ++ closing check_byte)
+    quiet_tail : Role p d c q k xs → (w : List ℕ) → Quiet w (xs ++ closing own_check)
     quiet_tail (is_first o s r) w = tail_quiet hk (r blank).1 w _
     quiet_tail (is_lone o s r) w = tail_quiet hk r w _
     quiet_tail (is_next o s due same r) w = tail_quiet hk r w _
@@ -415,18 +419,18 @@ module _ (R : Rules) (L : RuleLaws R) where
 
     module _ {v : ℕ} (nv : v ≢ FD) where
       -- the picture code altered
-      idle_picture : Role p d c q k xs → q ≢ v → IdleAfter (mk R seen_opening 1 0 0 p d FD c) (v ∷ k ∷ (xs ++ closing check_byte))
+      idle_picture : Role p d c q k xs → q ≢ v → IdleAfter (mk R seen_opening 1 0 0 p d FD c) (v ∷ k ∷ (xs ++ closing own_check))
       idle_picture role n =
           by_test (is_picture v)
           (λ e. idle_go (take_picture R L p d v c e) (other 0 tt) (kinds role))
-          (λ e. idle_go (bad_picture p d v c nv e) (L.no_picture v)
+          (λ e. idle_go (bad_picture p d v c nv e) (L.no_picture_lem v)
           (idle_quiet (push seen_opening v) blank (quiet1 (only_fd (push seen_opening v) k (kind_not_fd R L k hk)) (quiet_tail role (push (push seen_opening v) k)))))
         where
-          kinds : Role p d c q k xs → IdleAfter (mk R (push seen_opening v) 2 0 v p d (FD ⊕ v) c) (k ∷ (xs ++ closing check_byte))
+          kinds : Role p d c q k xs → IdleAfter (mk R (push seen_opening v) 2 0 v p d (FD ⊕ v) c) (k ∷ (xs ++ closing own_check))
           kinds (is_first o s r) =
               let (a, b, f, na) = take_start R L p d v k c s in
               idle_go f na
-              (under xs (seen_kind v k) 3 k v 0 0 (check_at3 v k) check_byte (begin v b) (quiet_tail role (seen_kind v k)) hk (omega arith) (L.long_3 k hk) (omega arith) (λ g. absurd (omega arith))
+              (under xs (seen_kind v k) 3 k v 0 0 (check_at3 v k) own_check (begin v b) (quiet_tail role (seen_kind v k)) hk (omega arith) (L.long_3 k hk) (omega arith) (λ g. absurd (omega arith))
               (λ _ g. n (cancel_left FD q v (cancel_right k _ _ (cancel_right (xor_all xs) _ _ (cancel_right EOR _ _ (checked q k xs ∙ g)))))))
           kinds (is_lone o s r) =
               let (a, f, na) = lone_kind p d v k c (kind_not_fd R L k hk) s o in
@@ -436,13 +440,13 @@ module _ (R : Rules) (L : RuleLaws R) where
               idle_go f na (idle_quiet _ blank (quiet_tail role (push (push seen_opening v) k)))
 
       -- the kind altered
-      idle_kind : Role p d c q k xs → k ≢ v → IdleAfter (mk R seen_opening 1 0 0 p d FD c) (q ∷ v ∷ (xs ++ closing check_byte))
+      idle_kind : Role p d c q k xs → k ≢ v → IdleAfter (mk R seen_opening 1 0 0 p d FD c) (q ∷ v ∷ (xs ++ closing own_check))
       idle_kind role n =
           idle_go (take_picture R L p d q c hq) (other 0 tt)
           (by_test (is_start v)
           (λ e. let (a, b, f, na) = take_start R L p d q v c e in
           idle_go f na
-          (under xs (seen_kind q v) 3 v q 0 0 (check_at3 q v) check_byte (begin q b) (quiet_tail role (seen_kind q v)) (L.start_kind v e) (omega arith) (L.long_3 v (L.start_kind v e))
+          (under xs (seen_kind q v) 3 v q 0 0 (check_at3 q v) own_check (begin q b) (quiet_tail role (seen_kind q v)) (L.start_kind v e) (omega arith) (L.long_3 v (L.start_kind v e))
           (omega (arith, L.shortest v k e hk)) (λ g. longer role e g)
           (λ _ g. n (cancel_left (FD ⊕ q) k v (cancel_right (xor_all xs) _ _ (cancel_right EOR _ _ (checked q k xs ∙ g)))))))
           (λ e. others role e))
@@ -453,7 +457,7 @@ module _ (R : Rules) (L : RuleLaws R) where
           longer (is_lone {c'} {e = e'} o s r) e g = L.eor_places k c' e' xs hk s r
           longer (is_next {e = e'} o s due same r) e g = L.eor_places k c e' xs hk s r
 
-          others : Role p d c q k xs → is_start v ≡ false → IdleAfter (mk R (push seen_opening q) 2 0 q p d (FD ⊕ q) c) (v ∷ (xs ++ closing check_byte))
+          others : Role p d c q k xs → is_start v ≡ false → IdleAfter (mk R (push seen_opening q) 2 0 q p d (FD ⊕ q) c) (v ∷ (xs ++ closing own_check))
           others (is_first o s r) g =
               let (a, f, na) = lone_kind p d q v c nv g o in
               idle_go f na (idle_quiet _ blank (quiet_tail role (push (push seen_opening q) v)))
@@ -472,7 +476,7 @@ module _ (R : Rules) (L : RuleLaws R) where
           idle_go (take_picture R L p d q c hq) (other 0 tt) (idle_go f na (idle_block q 0 0 nv hq hk l (r b).1 a))
       idle_rest (is_lone o s r) (there (there a)) =
           let (n, f, na) = lone_kind p d q k c (kind_not_fd R L k hk) s o in
-          idle_go (take_picture R L p d q c hq) (other 0 tt) (idle_go f na (idle_tail q check_byte nv hq hk r a))
+          idle_go (take_picture R L p d q c hq) (other 0 tt) (idle_go f na (idle_tail q own_check nv hq hk r a))
       idle_rest (is_next o s due same r) (there (there a)) =
           idle_go (take_picture R L p d q c hq) (other 0 tt) (idle_go (take_due R L p d q k c o due hk s same) (other 0 tt) (idle_block q p d nv hq hk l r a))
 
@@ -491,6 +495,7 @@ module _ (R : Rules) (L : RuleLaws R) where
     broken w (there (there (there (there (here n))))) =
         quiet1 (no_opening _ LPAD tt)
         (quiet1 (no_opening _ SYN tt) (quiet1 (no_opening _ SYN tt) (quiet1 (no_opening _ DLE tt) (quiet1 (only_fd _ v nv) (broken_5 tail quiet_tail v _ (flip n))))))
+    broken w (there (there (there (there (there (there {ys = ys} x30)))))) = elim x30 [ ]
     broken w (there (there (there (there (there (here n)))))) =
         quiet1 (no_opening _ LPAD tt)
         (quiet1 (no_opening _ SYN tt)
@@ -530,6 +535,7 @@ module _ (R : Rules) (L : RuleLaws R) where
           (idle_go (gap_3 R L (take 2 (take 3 w)) p d c hp) (other 0 tt)
           (idle_go (gap_4 R L (take 1 (take 2 (take 3 w))) p d c hp) (other 0 tt)
           (idle_go (bad_due (DLE ∷ SYN ∷ SYN ∷ LPAD ∷ TPAD ∷ []) (due_control []).4 n) (other 12 tt) (idle_quiet _ blank (broken_5 tail quiet_tail v _ (flip n)))))))
+      gap_broken w (there (there (there (there (there (there {ys = ys} x30)))))) = elim x30 [ ]
       gap_broken w (there (there (there (there (there (here n)))))) =
           idle_go (gap_1 R L w p d c hp) (other 0 tt)
           (idle_go (gap_2 R L (take 3 w) p d c hp) (other 0 tt)

@@ -4,12 +4,12 @@ use mathlib.Core.Path.{◌≡◌, refl, sym, ap, ◌∙◌, subst}
 use mathlib.Core.Logic.{inl, inr}
 use mathlib.Core.Bool.{Bool, true, false, cond, not, ◌&&◌, and-true}
 use mathlib.Core.List.{List, [], ◌∷◌}
-use Prim.Native.Nat.{ℕ, zero, suc, ◌-◌, ◌≤◌, ◌<◌}
+use Prim.Native.Nat.{ℕ, zero, suc, ◌≤◌}
 use native.Mathlib.Omega.{arith}
 use lib.Dec.{eqb, leb, ltb}
 use lib.ListN.{length, take}
-use lib.IntN.{ℤ, pos}
-use borrow.Author.Tests.{eqb-true, ltb-true, ltb-false, leb-true, le-leb, lt-leb, ne_eqb, eq-eqb}
+use lib.IntN.{pos}
+use borrow.Author.Tests.{eqb-true, ltb-false, leb-true, le-leb, lt-leb, ne_eqb, eq-eqb}
 use Rattle.general_laws.specs.Bytes.{◌!◌, every, all_of}
 use Rattle.text_calendar_spec.specs.TimeDigits.{minute_in}
 use Rattle.text.specs.Text.{EOR, TPAD}
@@ -28,8 +28,8 @@ use Rattle.receiver_spec.specs.Calls.{Request, byte, slice, ask, Call, received,
 use Rattle.receiver_spec.specs.WaitingDigits.{with_digits, Elsewhere, WaitingClaim}
 use Rattle.receiver_spec.specs.Demand3.{MinuteWaits}
 use Rattle.receiver_spec.proofs.Waiting.{AllZero, AllSmall, none_waits, zero_elsewhere, small_always, not_start, not_yet, no_more, waits_there}
-use Rattle.receiver_spec.proofs.Possible.{Possible, possible_facts}
-use Rattle.receiver_spec.proofs.CallLists.{PossibleOnGrid, steps_sound, byte_taken, slice_taken, Stepped, calls_stepped}
+use Rattle.receiver_spec.proofs.Possible.{possible_facts}
+use Rattle.receiver_spec.proofs.CallLists.{PossibleOnGrid, steps_sound, byte_taken, slice_taken, calls_stepped}
 
 -- ---- row 2
 

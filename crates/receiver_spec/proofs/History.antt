@@ -156,7 +156,7 @@ module _ (R : Rules) (L : RuleLaws R) where
       by_if (Good (h ++ (b ∷ []))) (is_picture b)
       (λ e. quiet 0 _ (λ e. omega arith)
       (history z (ys ++ (control_a ++ (FD ∷ b ∷ []))) (snoc_eq h z (ys ++ opening) b k ∙ simp append_assoc) (at_two refl e (ap (λ n. n ⊕ b) x) f)))
-      (λ _. dropped (no_picture b) _ (L.no_picture b))
+      (λ _. dropped (no_picture b) _ (L.no_picture_lem b))
 
   -- the check byte over the first three bytes
   check_3 : (q k : ℕ) → (FD ⊕ q) ⊕ k ≡ xor_all (FD ∷ q ∷ k ∷ [])

@@ -237,9 +237,9 @@ module _ (marks : ℕ) where
   unfolding has_mode mode_of bit
   modeless_eor = refl
 
-  FDOnly : (k : ℕ) (h : Header) (ds : List ℕ) (i : ℕ) → takes_byte k h ds i FD ≡ true → (is_start_kind k ≡ true) × (i ≡ 4)
+  fd_only : (k : ℕ) (h : Header) (ds : List ℕ) (i : ℕ) → takes_byte k h ds i FD ≡ true → (is_start_kind k ≡ true) × (i ≡ 4)
   unfolding takes_byte
-  FDOnly k h ds i t =
+  fd_only k h ds i t =
       by_test (is_start_kind k) (λ s. (s, start_fd h ds i (rw s at t))) (λ s. never (none_takes k FD h ds i s (lit≤ tt) modeless_fd) t)
 
   -- the NULL byte
@@ -255,23 +255,23 @@ module _ (marks : ℕ) where
   free_fd : {k i : ℕ} {c d : Held} {xs : List ℕ} → 4 < i → BlockContents R k c i xs d → Free FD xs
   free_fd l contents_end = free0
   free_fd {k} {i} {c} l (contents_byte {x} h r) =
-      free1 {x = x} (λ e. omega (arith, (FDOnly k c.header c.digits i (subst (λ v. takes_byte k c.header c.digits i v ≡ true) e h)).1)) (free_fd (omega arith) r)
+      free1 {x = x} (λ e. omega (arith, (fd_only k c.header c.digits i (subst (λ v. takes_byte k c.header c.digits i v ≡ true) e h)).1)) (free_fd (omega arith) r)
 
-  FDPlaces : (k : ℕ) (c e : Held) (xs : List ℕ) → is_kind k ≡ true → BlockContents R k c 3 xs e → Free FD xs ⊎ ((vs : List ℕ) × (xs ≡ 0 ∷ FD ∷ vs) × Free FD vs)
-  FDPlaces k c e xs hk r = first r
+  fd_places_lem : (k : ℕ) (c e : Held) (xs : List ℕ) → is_kind k ≡ true → BlockContents R k c 3 xs e → Free FD xs ⊎ ((vs : List ℕ) × (xs ≡ 0 ∷ FD ∷ vs) × Free FD vs)
+  fd_places_lem k c e xs hk r = first r
     where
       second : {d e : Held} {x : ℕ} {ys : List ℕ} → (is_start_kind k ≡ true → x ≡ 0) → x ≢ FD → BlockContents R k d 4 ys e → Free FD (x ∷ ys) ⊎ ((vs : List ℕ) × (x ∷ ys ≡ 0 ∷ FD ∷ vs) × Free FD vs)
       second f n contents_end = inl (free1 n free0)
       second {d} {x} f n (contents_byte {x = y} {xs = ys} h r) =
           by_test (eqb y FD)
           (λ t. let g = eqb-true y FD t in
-          inr (ys, ap₂ (λ a b. a ∷ b ∷ ys) (f (FDOnly k d.header d.digits 4 (subst (λ v. takes_byte k d.header d.digits 4 v ≡ true) g h)).0) g, free_fd (omega arith) r))
+          inr (ys, ap₂ (λ a b. a ∷ b ∷ ys) (f (fd_only k d.header d.digits 4 (subst (λ v. takes_byte k d.header d.digits 4 v ≡ true) g h)).0) g, free_fd (omega arith) r))
           (λ t. inl (free1 n (free1 (eqb-false y FD t) (free_fd (omega arith) r))))
 
       first : {c e : Held} {ys : List ℕ} → BlockContents R k c 3 ys e → Free FD ys ⊎ ((vs : List ℕ) × (ys ≡ 0 ∷ FD ∷ vs) × Free FD vs)
       first contents_end = inl free0
       first {c} (contents_byte {x} h r) =
-          second (λ s. null_only k x c.header c.digits s h) (λ g. omega (arith, (FDOnly k c.header c.digits 3 (subst (λ v. takes_byte k c.header c.digits 3 v ≡ true) g h)).1)) r
+          second (λ s. null_only k x c.header c.digits s h) (λ g. omega (arith, (fd_only k c.header c.digits 3 (subst (λ v. takes_byte k c.header c.digits 3 v ≡ true) g h)).1)) r
 
   -- a start block does not look at the grid
   abbrev over : Held → List ℕ → Held
@@ -299,12 +299,12 @@ module _ (marks : ℕ) where
         start_kind = start_is_kind;
         part_some = part_some;
         long_3 = λ k h. omega (arith, block_least k h);
-        fd_first = λ k c _. by_test (takes_byte k c.header c.digits 3 FD) (λ t. absurd (omega (arith, (FDOnly k c.header c.digits 3 t).1))) (λ t. t);
+        fd_first = λ k c _. by_test (takes_byte k c.header c.digits 3 FD) (λ t. absurd (omega (arith, (fd_only k c.header c.digits 3 t).1))) (λ t. t);
         fd_after = λ k i c h. after k i c h;
         begin_any = λ k q a b d xs s r. (over d b.grid, contents_over b.grid s r, refl, refl);
         tpad_picture = unlisted_unmarked marks TPAD refl;
         syn_picture = unlisted_unmarked marks SYN refl;
-        fd_places = FDPlaces;
+        fd_places = fd_places_lem;
         eor_places = λ k c e xs _ s r. free_eor s r;
         shortest = λ j k s h. omega (arith, start_block_length j s, block_least k h);
       }
@@ -312,7 +312,7 @@ module _ (marks : ℕ) where
       after : (k i : ℕ) (c : Held) → takes_byte k c.header c.digits i STX ≡ true → takes_byte k (R.enter k c i STX).header (R.enter k c i STX).digits (suc i) FD ≡ false
       after k i c h =
           by_test (takes_byte k (R.enter k c i STX).header (R.enter k c i STX).digits (suc i) FD)
-          (λ t. let (s, e) = FDOnly k (R.enter k c i STX).header (R.enter k c i STX).digits (suc i) t in
+          (λ t. let (s, e) = fd_only k (R.enter k c i STX).header (R.enter k c i STX).digits (suc i) t in
           let three : i ≡ 3 = omega arith in
           absurd (omega (arith, null_only k STX c.header c.digits s (subst (λ n. takes_byte k c.header c.digits n STX ≡ true) three h))))
           (λ t. t)

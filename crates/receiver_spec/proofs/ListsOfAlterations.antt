@@ -33,6 +33,7 @@ all_as_they_were (block ∷ blocks) = next_text as_it_was (all_as_they_were bloc
 -- one altered byte
 one_altered_lem : {v : ℕ} {bytes : List ℕ} (blocks : List (List ℕ)) → v ≢ FD → AlteredTo v (texts_of blocks) bytes → AlteredTexts blocks bytes
 unfolding texts_of
+one_altered_lem {v = v} {bytes = bytes} [] n a = elim a [ ]
 one_altered_lem {v} {bytes} (block ∷ blocks) n a = split (λ us b. one_altered_lem {bytes = us} blocks n b) (altered_parts (text_of block) a)
   where
     split : ((us : List ℕ) → AlteredTo v (texts_of blocks) us → AlteredTexts blocks us)

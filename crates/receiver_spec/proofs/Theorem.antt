@@ -29,7 +29,7 @@ use Rattle.receiver_spec.specs.Calls.{Reply, quiet, part_begun, text_taken, part
 use Rattle.receiver_spec.specs.Demand3.{IsAnswer, CallMade, Marked, Unmarked, part_answers, part_unmarked, EndsUndamaged, WayBack, PartUnmarked, Demand3}
 use Rattle.receiver_spec.proofs.MarkLaws.{all_marked}
 use Rattle.receiver_spec.proofs.Opening.{only_fd, pushes}
-use Rattle.receiver_spec.proofs.Machine.{Rules, Machine, Out, mk, lost, move, run, new, BlockContents, block, most, text, Whole, whole, text_same}
+use Rattle.receiver_spec.proofs.Machine.{Rules, Machine, Out, mk, lost, move, run, new, BlockContents, block, most, Whole, whole, text_same}
 use Rattle.receiver_spec.proofs.Steps.{run_append}
 use Rattle.receiver_spec.proofs.WayBack.{start_run, way_back_lem}
 use Rattle.receiver_spec.proofs.Completing.{part_open}

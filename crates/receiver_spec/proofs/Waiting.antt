@@ -1,21 +1,20 @@
 -- Request 111: the digits of the time wait at places 9 to 23 of a start text, each 9 at most, and are 0 elsewhere; every step keeps
 -- that. Assumes nothing.
 use mathlib.Core.Path.{◌≡◌, refl, sym, subst}
-use mathlib.Core.Bool.{Bool, true, false, cond, ◌&&◌, not, ◌||◌, and-false}
+use mathlib.Core.Bool.{Bool, true, false, and-false}
 use mathlib.Core.List.{List, [], ◌∷◌}
-use Prim.Native.Nat.{ℕ, zero, suc, ◌-◌, ◌≤◌, ◌<◌}
+use Prim.Native.Nat.{ℕ, zero, suc, ◌-◌, ◌≤◌}
 use native.Mathlib.Omega.{arith}
 use lib.Dec.{eqb, leb}
 use lib.ListN.{set}
-use borrow.Author.Tests.{eqb-true, eqb-false, leb-true, leb-false, le-leb, lt-leb, eq-eqb, ne_eqb}
+use borrow.Author.Tests.{eqb-true, leb-true, leb-false, le-leb, lt-leb, ne_eqb}
 use Rattle.general_laws.specs.Bytes.{is_in, every}
 use Rattle.text.specs.Kinds.{is_start_kind, block_length}
 use Rattle.text.specs.StartBlock.{digit_places, stop_places, is_digit}
-use Rattle.text_calendar_spec.specs.TimeDigits.{is_time}
-use Rattle.general_laws.proofs.Tests.{by_test, by_if, and_split, and_join, never}
+use Rattle.general_laws.proofs.Tests.{by_test, by_if, and_split, and_join}
 use Rattle.text_laws.proofs.KindTable.{start_block_length}
 use Rattle.receiver_spec.specs.State.{State, no_digits, awaits_time, are_waiting}
-use Rattle.receiver_spec.specs.Contents.{index_in, with_digit, time_takes, start_takes, enter_digits, takes_byte}
+use Rattle.receiver_spec.specs.Contents.{index_in, time_takes, start_takes, enter_digits, takes_byte}
 use Rattle.receiver_spec.specs.Receiver.{entered}
 
 -- ---- lists of digits

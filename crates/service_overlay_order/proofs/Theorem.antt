@@ -33,11 +33,13 @@ as_defined (as_laid {t} {u} c d third r exit e) =
 
 -- what each call of the tree came to is among what was made
 made_of : (calls : List OverlayCall) (c : OverlayCall) → c ∈ calls → outcome c ∈ map outcome calls
+made_of [] c m = elim m [ ]
 made_of (x ∷ calls) c (Memᴰ.head e) = Memᴰ.head (ap outcome e)
 made_of (x ∷ calls) c (Memᴰ.tail m) = Memᴰ.tail (made_of calls c m)
 
 -- and each thing made is what some call of the tree came to
 of_made : (P : OverlayOutcome → Type 0) (calls : List OverlayCall) → ((c : OverlayCall) → c ∈ calls → P (outcome c)) → (o : OverlayOutcome) → o ∈ map outcome calls → P o
+of_made P [] each o m = elim m [ ]
 of_made P (x ∷ calls) each o (Memᴰ.head e) = subst P (sym e) (each x (Memᴰ.head refl))
 of_made P (x ∷ calls) each o (Memᴰ.tail m) = of_made P calls (λ c l. each c (Memᴰ.tail l)) o m
 

@@ -1,6 +1,6 @@
 -- The twelve digits of a date and time, and the date and time of twelve digits. Assumes nothing.
 use Prim.Native.Nat.{ℕ, ◌+◌, ◌*◌, ◌/◌, ◌%◌, ◌<◌, ◌≤◌}
-use mathlib.Core.Path.{◌≡◌, refl, sym, ap}
+use mathlib.Core.Path.{◌≡◌, sym, ap}
 use mathlib.Core.Bool.{Bool, true, false, false≢true}
 use mathlib.Core.List.{List}
 use native.Mathlib.Omega.{arith}
@@ -11,13 +11,13 @@ use lib.IntN.{ℤ, pos}
 use Rattle.general_laws.specs.Bytes.{◌!◌, every}
 use Rattle.general_laws.proofs.Tests.{by_test, and_split, every_at}
 use Rattle.general_laws.proofs.Places.{by_place}
-use Rattle.text_calendar_spec.specs.Calendar.{is_moment, moment, is_in_calendar}
+use Rattle.text_calendar_spec.specs.Calendar.{moment, is_in_calendar}
 use Rattle.text_calendar_spec.specs.TimeDigits.{year_of, two_digits, is_time, minute_in, time_check, digits_for}
 use Rattle.text_calendar_spec.specs.declared.time.Moment.{Moment}
 use Rattle.text_calendar_spec.specs.declared.time.TimeCheck.{TimeCheck}
 use Rattle.text_calendar_spec.specs.declared.time.TimeCheck.TheVariants.{Minute, Invalid}
 use Rattle.text_calendar_spec.proofs.Days.{month_most}
-use Rattle.text_calendar_spec.proofs.Moments.{InCalendar, in_calendar}
+use Rattle.text_calendar_spec.proofs.Moments.{in_calendar}
 
 -- four digits and two digits give their number
 four : (y : ℕ) → y / 1000 * 1000 + y / 100 % 10 * 100 + y / 10 % 10 * 10 + y % 10 ≡ y

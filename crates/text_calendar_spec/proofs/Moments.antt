@@ -1,14 +1,13 @@
 -- Dates and times and the minutes before them, counted from 1 January 0000, 00:00. Assumes nothing.
 use Prim.Native.Nat.{ℕ, ◌+◌, ◌*◌, ◌-◌, ◌/◌, ◌%◌, ◌<◌, ◌≤◌}
 use mathlib.Core.Path.{◌≡◌, refl, sym, ap, subst, ◌∙◌}
-use mathlib.Core.Bool.{Bool, true, false}
+use mathlib.Core.Bool.{true}
 use native.Mathlib.Omega.{arith}
 use borrow.Author.Tests.{leb-true, le-leb}
-use lib.Dec.{leb}
 use Rattle.general_laws.specs.Bytes.{all_of}
-use Rattle.general_laws.proofs.Tests.{and_split, rule_at}
-use Rattle.text_calendar_spec.specs.Calendar.{days_in, is_moment, moment, is_in_calendar}
-use Rattle.text_calendar_spec.specs.Minutes.{together, days_of_year, days_before_year, days_of_months, day_of, minutes_before, span_from, year_at, month_in, moment_in, moment_at}
+use Rattle.general_laws.proofs.Tests.{rule_at}
+use Rattle.text_calendar_spec.specs.Calendar.{days_in, is_moment, moment}
+use Rattle.text_calendar_spec.specs.Minutes.{together, days_of_year, days_before_year, days_of_months, day_of, minutes_before, span_from, year_at, moment_in, moment_at}
 use Rattle.text_calendar_spec.specs.declared.time.Moment.{Moment}
 use Rattle.text_calendar_spec.proofs.Spans.{lies}
 use Rattle.text_calendar_spec.proofs.Days.{none, one_more, months, month_step, year_step, all_years, year_found, moment_found, year_lies, months_ordered, years_ordered}

@@ -1,18 +1,17 @@
 -- A later moment has more minutes before it; the next minute has one more. Assumes nothing.
 use Prim.Native.Nat.{ℕ, ◌+◌, ◌*◌, ◌-◌, ◌<◌, ◌≤◌}
-use mathlib.Core.Path.{◌≡◌, refl, sym, ap, subst, ◌∙◌}
-use mathlib.Core.Logic.{⊎_elim}
-use mathlib.Core.Bool.{Bool, true, false, cond, ◌&&◌, ◌||◌}
+use mathlib.Core.Path.{◌≡◌, sym, ap, subst, ◌∙◌}
+use mathlib.Core.Bool.{Bool, true, false, ◌&&◌, ◌||◌}
 use native.Mathlib.Omega.{arith}
-use borrow.Author.Tests.{eqb-true, eqb-false, eq-eqb, ne_eqb, ltb-true, ltb-false, lt-ltb, le-ltb}
+use borrow.Author.Tests.{eqb-true, eqb-false, ltb-true, ltb-false, lt-ltb, le-ltb}
 use lib.Dec.{eqb, ltb}
 use Rattle.general_laws.proofs.Tests.{by_test, by_if}
-use Rattle.text_calendar_spec.specs.Calendar.{days_in, moment, is_in_calendar}
+use Rattle.text_calendar_spec.specs.Calendar.{days_in}
 use Rattle.text_calendar_spec.specs.Minutes.{days_of_year, days_before_year, days_of_months, day_of, minutes_before}
 use Rattle.text_calendar_spec.specs.Claim.{is_earlier, next_minute}
 use Rattle.text_calendar_spec.specs.declared.time.Moment.{Moment}
 use Rattle.text_calendar_spec.proofs.Days.{no_months, months, month_step, year_step, months_ordered, years_ordered}
-use Rattle.text_calendar_spec.proofs.Moments.{InCalendar, in_calendar, month_ends}
+use Rattle.text_calendar_spec.proofs.Moments.{InCalendar, month_ends}
 
 -- the rules of a moment, and the minutes before it
 abbrev Rules : Moment → Type 0

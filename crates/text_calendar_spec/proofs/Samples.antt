@@ -2,9 +2,8 @@
 -- nothing.
 use mathlib.Core.Path.{◌≡◌, refl}
 use mathlib.Core.Bool.{true, false}
-use mathlib.Core.List.{List, [], ◌∷◌}
-use Prim.Native.Nat.{ℕ}
-use lib.IntN.{pos, negsuc, neg_ℤ}
+use mathlib.Core.List.{[], ◌∷◌}
+use lib.IntN.{pos, neg_ℤ}
 use Rattle.general_laws.specs.Bytes.{is_in, every, all_of}
 use Rattle.text_calendar_spec.specs.Calendar.{is_leap_year, days_in, is_moment, moment}
 use Rattle.text_calendar_spec.specs.Minutes.{together, days_of_year, days_before_year, days_of_months, day_of, minutes_before, epoch, minute_of, is_minute, span_from, year_at, month_in, moment_in, moment_at, moment_of}

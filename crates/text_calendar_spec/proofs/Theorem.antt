@@ -1,10 +1,10 @@
 -- What minutes come to, entire. Assumes nothing.
-use Prim.Native.Nat.{ℕ, ◌+◌, ◌<◌}
+use Prim.Native.Nat.{ℕ}
 use mathlib.Core.Path.{◌≡◌, refl, sym, ap, subst, ◌∙◌}
-use mathlib.Core.Bool.{true, false, cond}
+use mathlib.Core.Bool.{true, false}
 use mathlib.Core.List.{List, [], ◌∷◌}
 use lib.ListN.{length}
-use lib.IntN.{ℤ, pos, sub_ℕ, ◌+ℤ◌, nat_abs}
+use lib.IntN.{ℤ, pos, sub_ℕ, ◌+ℤ◌}
 use lib.Signed.{lt_z}
 use Rattle.text_calendar_spec.specs.Calendar.{moment, is_in_calendar}
 use Rattle.text_calendar_spec.specs.Minutes.{epoch, minute_of, is_minute, moment_at, moment_of}

@@ -73,4 +73,4 @@ returns c =
     broken _ _ _ _ _ _ c.requires c.is_taken-kept.ensures c.if-kept.false
 
 pub is_taken-kept-requires : goal.is_taken-kept-requires
-is_taken-kept-requires c = (λ c κs e. absurd (false≢true (sym c.requires ∙ e))) c
+is_taken-kept-requires c e = absurd (false≢true (sym c.requires ∙ e))

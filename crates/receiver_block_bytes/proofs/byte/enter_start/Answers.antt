@@ -50,7 +50,10 @@ module _ (k : ℕ) (h : Header) (m ds : List ℕ) (i b : ℕ) (s : is_start_kind
 pub enter_header-with_byte-requires : goal.enter_header-with_byte-requires
 enter_header-with_byte-requires c =
     let a = c.args in
-    (start_has a.kind a.header a.modes a.digits a.i a.b c.requires (sym c.is_taken-kept.ensures ∙ c.if-kept.true), c.if-i-eq23.false)
+    record {
+      le_i = start_has a.kind a.header a.modes a.digits a.i a.b c.requires (sym c.is_taken-kept.ensures ∙ c.if-kept.true);
+      i_nonzero = c.if-i-eq23.false;
+    }
 
 pub enter_digits-waiting-requires : goal.enter_digits-waiting-requires
 enter_digits-waiting-requires c =
@@ -70,4 +73,4 @@ pub returns-then-i-eq23 : goal.returns-then-i-eq23
 returns-then-i-eq23 c = c.enter_time.ensures ∙ whole _ _ _ _ _ _ c.requires c.if-i-eq23.true
 
 pub is_taken-kept-requires : goal.is_taken-kept-requires
-is_taken-kept-requires c = (λ c κs _. c.if-i-eq23.false) c
+is_taken-kept-requires c _ = c.if-i-eq23.false

@@ -5,6 +5,7 @@ use mathlib.Core.Bool.{Bool, true, false, ◌||◌, ◌&&◌, and-false}
 use mathlib.Core.List.{List}
 use Prim.Native.Nat.{ℕ, ◌≤◌}
 use lib.Dec.{ltb, leb}
+use native.Mathlib.Omega.{arith}
 use lib.IntN.{ℤ}
 use mir.Syntax.{w64}
 use mir.Val.{SFits}
@@ -59,17 +60,21 @@ module _ (h : Header) (m ds : List ℕ) (b : ℕ) where
 
 pub returns-in-Minute : goal.returns-in-Minute
 returns-in-Minute c =
-    let f : SFits w64 c.check-1.given.0.0 = search rules in
+    let f : SFits w64 c.in-Minute.minute = search rules in
     rw (to_z-of_z f)
-    (at_time _ _ _ _ (digit _ c.if-b.false).1 c.with_digit.ensures (sym c.time_check-check.ensures ∙ c.check-1.given.1))
+    (at_time _ _ _ _ (digit _ c.if-b.false).1 c.with_digit.ensures (sym c.time_check-check.ensures ∙ c.in-Minute.is))
 
 pub returns-in-Invalid : goal.returns-in-Invalid
 returns-in-Invalid c =
     at_invalid _ _ _ _ (digit _ c.if-b.false).1 c.with_digit.ensures
-    (sym c.time_check-check.ensures ∙ c.enum_told-1.given.1)
+    (sym c.time_check-check.ensures ∙ c.in-Invalid.is)
 
 pub returns-then-b : goal.returns-then-b
 returns-then-b c = at_none _ _ _ _ (no_digit _ c.if-b.true)
 
 pub with_digit-requires : goal.with_digit-requires
-with_digit-requires c = (search rules, (last_no_stop, (digit _ c.if-b.false).0))
+with_digit-requires c = record {
+      i_bound = omega arith;
+      i_value = last_no_stop;
+      le_b = (digit _ c.if-b.false).0;
+    }

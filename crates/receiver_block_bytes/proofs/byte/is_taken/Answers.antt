@@ -56,7 +56,10 @@ start_takes-requires c =
     let a = c.args in
     let (low, high) = inside a.kind a.header a.i a.b c.block_length.ensures c.if-i-block_length.false in
     let s = sym c.is_start_kind.ensures ∙ c.if-is_start_kind.true in
-    ((low, omega (arith, high, start_block_length _ s)), c.requires s)
+    record {
+      le_i = (low, omega (arith, high, start_block_length _ s));
+      i_nonzero = c.requires s;
+    }
 
 pub returns-then-is_start_kind : goal.returns-then-is_start_kind
 returns-then-is_start_kind c =

@@ -45,7 +45,7 @@ returns-then-i-le23 c =
 
 pub returns : goal.returns
 returns c =
-    at_radar _ _ _ c.requires.le_i.0 c.if-i-le23.false c.requires.i_nonzero.1 c.radar_follows.ensures
+    at_radar _ _ _ c.requires.le_i.0 c.if-i-le23.false c.requires.i_nonzero_2 c.radar_follows.ensures
 
 pub time_takes-requires : goal.time_takes-requires
-time_takes-requires c = omega (arith, c.requires.le_i.0, c.if-i-le23.true, c.requires.i_nonzero.0)
+time_takes-requires c = omega (arith, c.requires.le_i.0, c.if-i-le23.true, c.requires.i_nonzero)

@@ -39,31 +39,29 @@ module _ (h : Header) (i b : ℕ) where
 
 pub later_takes-requires : goal.later_takes-requires
 later_takes-requires c =
-    let r = c.in_default.rest in
-    let pre = c.requires in
     record {
-      le_i = (omega (arith, pre.0.0, r.0.0.0.0.0.1, r.0.0.0.0.1, r.0.0.0.1, r.0.0.1, r.0.1), pre.0.1);
-      i_nonzero = pre.1;
-      i_nonzero_2 = r.1;
+      le_i = (omega arith, c.requires.le_i.1);
+      i_nonzero = c.requires.i_nonzero;
+      i_nonzero_2 = λ e. omega arith;
     }
 
 pub returns-in-3 : goal.returns-in-3
-returns-in-3 c = at_3 _ _ _ c.in_default.keys1
+returns-in-3 c = at_3 _ _ _ c.in-3.is
 
 pub returns-in-4 : goal.returns-in-4
-returns-in-4 c = at_4 _ _ _ c.in_default.keys2
+returns-in-4 c = at_4 _ _ _ c.in-4.is
 
 pub returns-in-5 : goal.returns-in-5
-returns-in-5 c = at_5 _ _ _ c.in_default.keys3 c.mode_of.ensures
+returns-in-5 c = at_5 _ _ _ c.in-5.is c.mode_of.ensures
 
 pub returns-in-6 : goal.returns-in-6
-returns-in-6 c = at_6 _ _ _ c.in_default.keys4
+returns-in-6 c = at_6 _ _ _ c.in-6.is
 
 pub returns-in-7 : goal.returns-in-7
-returns-in-7 c = at_7 _ _ _ c.in_default.keys5
+returns-in-7 c = at_7 _ _ _ c.in-7.is
 
 pub returns-in-24 : goal.returns-in-24
-returns-in-24 c = at_24 _ _ _ c.in_default.keys6 c.is_radar_code.ensures
+returns-in-24 c = at_24 _ _ _ c.in-24.is c.is_radar_code.ensures
 
 pub returns-in_default : goal.returns-in_default
 returns-in_default c = c.later_takes.ensures

@@ -42,10 +42,12 @@ pub with_digit-requires : goal.with_digit-requires
 with_digit-requires c =
     let a = c.args in
     let digit : is_stop (a.i - 8) ≡ false = sym c.is_stop.ensures ∙ c.if-is_stop.false in
-    let low : 8 ≤ a.i = c.if-i-le7.false in (
-      omega (arith, c.if-i-gt22.false),
-      (digit, digit_least (a.i - 8) a.b digit (c.requires low c.if-i-gt22.false)),
-    )
+    let low : 8 ≤ a.i = c.if-i-le7.false in
+    record {
+      i_bound = omega (arith, c.if-i-gt22.false);
+      i_value = digit;
+      le_b = digit_least (a.i - 8) a.b digit (c.requires low c.if-i-gt22.false);
+    }
 
 pub returns-then-i-le7 : goal.returns-then-i-le7
 returns-then-i-le7 c = before_time _ _ _ c.if-i-le7.true

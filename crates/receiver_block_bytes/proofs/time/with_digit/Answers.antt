@@ -16,11 +16,11 @@ below i h s = ltb-true (digit_index i) 12 (rw s at (tabled (λ i. is_stop i || l
 
 pub bounds-next-at : goal.bounds-next-at
 bounds-next-at c =
-    rw c.digit_index-at.ensures (below c.args.i c.requires.0 c.requires.1.0)
+    rw c.digit_index-at.ensures (below c.args.i c.requires.i_bound c.requires.i_value)
 
 pub returns : goal.returns
 unfolding digit_index
 returns c = simp c.digit_index-at.ensures
 
 pub digit_index-at-requires : goal.digit_index-at-requires
-digit_index-at-requires c = c.requires.0
+digit_index-at-requires c = c.requires.i_bound

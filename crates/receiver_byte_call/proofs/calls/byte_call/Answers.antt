@@ -81,8 +81,8 @@ pub returns-then-is_payload_here : goal.returns-then-is_payload_here
 unfolding ◌⊕◌
 returns-then-is_payload_here c =
     let a = c.args in
-    entered a.state a.grid.now a.b (search rules) c.if-grid-ne20000.false (sym c.is_payload_here.ensures ∙ c.if-is_payload_here.true)
-    c.pushed.ensures c.advanced_state.ensures
+    let e = entered a.state a.grid.now a.b (search rules) c.if-grid-ne20000.false (sym c.is_payload_here.ensures ∙ c.if-is_payload_here.true) c.pushed.ensures c.advanced_state.ensures in
+    record { grid_after = e.0; seen_value = e.1; }
 
 pub returns-then-not-is_possible : goal.returns-then-not-is_possible
 unfolding returned byte_call reply_of seen_after

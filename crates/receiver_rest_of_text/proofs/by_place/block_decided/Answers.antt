@@ -25,13 +25,13 @@ module _ (s : State) (b : ℕ) {e : EnterResult} (q : e ≡ entered_here s b) wh
 
 pub returns-then-not-e : goal.returns-then-not-e
 returns-then-not-e c =
-    c.drops.ensures ∙ broken _ _ c.enter_byte-e.ensures (c.if-not-e.true)
+    c.drops.ensures ∙ broken _ _ c.enter_byte-e.ensures (not-true _ c.if-not-e.true)
 
 pub returns : goal.returns
 unfolding ◌⊕◌
 returns c =
     c.goes_on.ensures
-    ∙ rw c.advanced.ensures (kept _ _ c.enter_byte-e.ensures (c.if-not-e.false))
+    ∙ rw c.advanced.ensures (kept _ _ c.enter_byte-e.ensures (not-false _ c.if-not-e.false))
 
 pub advanced-requires : goal.advanced-requires
 advanced-requires c = c.requires

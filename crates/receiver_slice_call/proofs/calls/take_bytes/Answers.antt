@@ -60,7 +60,7 @@ pub overflow_add-i : goal.overflow_add-i
 overflow_add-i c = omega (arith, c.loop-i-test.true, c.well_formed)
 
 pub shape_of-grid-then-not-is_quiet : goal.shape_of-grid-then-not-is_quiet
-shape_of-grid-then-not-is_quiet c = c.apply.auto.0 ∙ c.loop-i.invariant.long ∙ sym c.requires
+shape_of-grid-then-not-is_quiet c = c.apply.auto.grid ∙ c.loop-i.invariant.long ∙ sym c.requires
 
 pub slice_bounds-past_stretch-count : goal.slice_bounds-past_stretch-count
 slice_bounds-past_stretch-count c = omega (arith, c.loop-i-test.true)

@@ -5,7 +5,7 @@ use Prim.Native.Nat.{◌+◌}
 use native.Mathlib.Omega.{arith}
 use lib.Dec.{eqb, leb}
 use borrow.Author.Rules.{rules}
-use borrow.Author.Tests.{eq-eqb, ne_eqb, not-true, not-false}
+use borrow.Author.Tests.{eq-eqb, ne_eqb}
 use Rattle.general_laws.specs.Bytes.{all_of}
 use Rattle.text.specs.Pictures.{is_picture_code}
 use Rattle.text.specs.Kinds.{text_number, kind_of, is_kind, is_start_kind, block_length}
@@ -49,20 +49,20 @@ module _ (f : Frame) where
 
 pub returns-then-f-eq0-2 : goal.returns-then-f-eq0-2
 returns-then-f-eq0-2 c =
-    at_none _ (eq-eqb _ _ c.if-f-eq0.taken) (eq-eqb _ _ c.if-f-eq0-2.taken)
+    at_none _ (eq-eqb _ _ c.if-f-eq0.true) (eq-eqb _ _ c.if-f-eq0-2.true)
 
 pub returns-then-f-eq1 : goal.returns-then-f-eq1
 returns-then-f-eq1 c =
-    at_first _ (eq-eqb _ _ c.if-f-eq0.taken) (ne_eqb _ _ c.if-f-eq0-2.left) (eq-eqb _ _ c.if-f-eq1.taken)
+    at_first _ (eq-eqb _ _ c.if-f-eq0.true) (ne_eqb _ _ c.if-f-eq0-2.false) (eq-eqb _ _ c.if-f-eq1.true)
 
 pub returns-then-f-eq0 : goal.returns-then-f-eq0
 returns-then-f-eq0 c =
     rw c.is_picture_code.ensures
-    (at_second _ (eq-eqb _ _ c.if-f-eq0.taken) (ne_eqb _ _ c.if-f-eq0-2.left) (ne_eqb _ _ c.if-f-eq1.left))
+    (at_second _ (eq-eqb _ _ c.if-f-eq0.true) (ne_eqb _ _ c.if-f-eq0-2.false) (ne_eqb _ _ c.if-f-eq1.false))
 
 pub returns-then-not-is_kind : goal.returns-then-not-is_kind
 returns-then-not-is_kind c =
-    no_kind _ (ne_eqb _ _ c.if-f-eq0.left) (sym c.is_kind.ensures ∙ not-true _ c.if-not-is_kind.taken)
+    no_kind _ (ne_eqb _ _ c.if-f-eq0.false) (sym c.is_kind.ensures ∙ c.if-not-is_kind.true)
 
 pub overflow_add-placed : goal.overflow_add-placed
 overflow_add-placed c = omega (arith, c.block_length.ensures, block_most c.args.f.kind)
@@ -76,9 +76,9 @@ returns-then-f-eq0-3 c =
     )
     (start_kind
     _
-    (ne_eqb _ _ c.if-f-eq0.left)
-    (sym c.is_kind.ensures ∙ not-false _ c.if-not-is_kind.left)
-    (eq-eqb _ _ c.if-f-eq0-3.taken))
+    (ne_eqb _ _ c.if-f-eq0.false)
+    (sym c.is_kind.ensures ∙ c.if-not-is_kind.false)
+    (eq-eqb _ _ c.if-f-eq0-3.true))
 
 pub returns : goal.returns
 returns c =
@@ -89,6 +89,6 @@ returns c =
     )
     (due_kind
     _
-    (ne_eqb _ _ c.if-f-eq0.left)
-    (sym c.is_kind.ensures ∙ not-false _ c.if-not-is_kind.left)
-    (ne_eqb _ _ c.if-f-eq0-3.left))
+    (ne_eqb _ _ c.if-f-eq0.false)
+    (sym c.is_kind.ensures ∙ c.if-not-is_kind.false)
+    (ne_eqb _ _ c.if-f-eq0-3.false))

@@ -6,8 +6,8 @@ use Rattle.receiver_state_ranges.proofs.ranges.is_due.Goals as goal
 
 pub returns-then-part-eq0 : goal.returns-then-part-eq0
 unfolding is_due
-returns-then-part-eq0 c = simp (eq-eqb _ _ c.if-part-eq0.taken)
+returns-then-part-eq0 c = simp (eq-eqb _ _ c.if-part-eq0.true)
 
 pub returns : goal.returns
 unfolding is_due
-returns c = simp (ne_eqb _ _ c.if-part-eq0.left, c.is_kind.ensures, c.kind_of.ensures)
+returns c = simp (ne_eqb _ _ c.if-part-eq0.false, c.is_kind.ensures, c.kind_of.ensures)

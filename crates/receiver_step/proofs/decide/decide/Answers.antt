@@ -1,5 +1,6 @@
 -- Each way out is a case of the definition. Assumes nothing.
 use mathlib.Core.Path.{sym, ◌∙◌}
+use native.Mathlib.Omega.{arith}
 use borrow.Author.Rules.{rules}
 use borrow.Author.Tests.{eq-eqb, ne_eqb}
 use Rattle.receiver_step.specs.Decide.{decide}
@@ -16,7 +17,7 @@ returns-in-0 c =
     simp (
       c.gap_decided.ensures,
       c.due_byte.ensures,
-      eq-eqb _ _ c.in_default.keys1,
+      eq-eqb _ _ c.in-0.is,
       sym c.ends_opening-opens.ensures ∙ c.if-opens.false,
       c.pushed_state-t.ensures,
     )
@@ -26,7 +27,7 @@ unfolding decide
 returns-in-1 c =
     simp (
       c.picture_decided.ensures,
-      c.in_default.keys2,
+      c.in-1.is,
       sym c.ends_opening-opens.ensures ∙ c.if-opens.false,
       c.pushed_state-t.ensures,
     )
@@ -36,7 +37,7 @@ unfolding decide
 returns-in-2 c =
     simp (
       c.kind_decided.ensures,
-      c.in_default.keys3,
+      c.in-2.is,
       sym c.ends_opening-opens.ensures ∙ c.if-opens.false,
       c.pushed_state-t.ensures,
     )
@@ -44,12 +45,12 @@ returns-in-2 c =
 pub returns-in_default : goal.returns-in_default
 unfolding decide
 returns-in_default c =
-    let r = c.in_default.rest in
+    let place = c.args.s.frame.place in
     simp (
       c.text_decided.ensures,
-      ne_eqb _ _ r.0.0.1,
-      ne_eqb _ _ r.0.1,
-      ne_eqb _ _ r.1,
+      ne_eqb place 0 (λ e. omega arith),
+      ne_eqb place 1 (λ e. omega arith),
+      ne_eqb place 2 (λ e. omega arith),
       sym c.ends_opening-opens.ensures ∙ c.if-opens.false,
       c.pushed_state-t.ensures,
     )

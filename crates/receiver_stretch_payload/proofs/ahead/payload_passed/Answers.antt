@@ -16,11 +16,11 @@ use Rattle.receiver_stretch_payload.proofs.ahead.payload_passed.Goals as goal
 
 pub overflow_cast-n : goal.overflow_cast-n
 overflow_cast-n c =
-    omega (arith, c.requires.bytes_bound.0, block_most c.args.s.frame.kind)
+    omega (arith, c.requires.bytes_bound, block_most c.args.s.frame.kind)
 
 pub overflow_add-f : goal.overflow_add-f
 overflow_add-f c =
-    omega (arith, c.requires.bytes_bound.0, block_most c.args.s.frame.kind)
+    omega (arith, c.requires.bytes_bound, block_most c.args.s.frame.kind)
 
 pub returns : goal.returns
 returns c =
@@ -28,10 +28,10 @@ returns c =
     let bytes = a.bytes.now in
     let h = in_payload_has a.s.frame c.requires.frame_value in
     let (five, rule) = neither (not (eqb a.s.frame.count 5)) (not c.are_payload_bytes.result) c.if-f-are_payload_bytes.false in
-    let fits = put_fits a.grid.now c.payload_base.result bytes (omega (arith, c.payload_base.ensures.place_bound, c.requires.bytes_bound.0, c.requires.bytes_bound.1)) in
+    let fits = put_fits a.grid.now c.payload_base.result bytes (omega (arith, c.payload_base.ensures.place_bound, c.requires.bytes_bound, c.requires.grid_len)) in
     payload_passed_on a.s h bytes a.grid.now
     (ap (λ p. every (is_payload_byte p) bytes) (sym c.part_of_kind.ensures) ∙ sym c.are_payload_bytes.ensures ∙ not-false _ rule)
-    (eqb-true _ _ (not-false _ five)) c.requires.bytes_bound.0
+    (eqb-true _ _ (not-false _ five)) c.requires.bytes_bound
     (c.put.ensures ∙ fits ∙ ap (λ i. sets a.grid.now i bytes) c.payload_base.ensures.value)
     c.check_behind-check.ensures c.seen_behind-seen.ensures c.advanced_state.ensures
 

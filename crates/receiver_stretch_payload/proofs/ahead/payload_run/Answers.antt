@@ -23,7 +23,7 @@ unfolding run
 loop-i-init c =
     let s = c.args.s in (
       rw (add-zero s.frame.place) (ap (λ t. passed t c.args.grid.now 0) (sym (advanced_first s))),
-      (sym (zero-add _), (omega arith, c.requires.bytes_bound.1)),
+      (sym (zero-add _), (omega arith, c.requires.grid_len)),
     )
 
 pub returns-then-not-is_payload_byte : goal.returns-then-not-is_payload_byte
@@ -41,19 +41,19 @@ short place n i k h l = omega (arith, h, l, block_most k)
 
 pub overflow_cast-i : goal.overflow_cast-i
 overflow_cast-i c =
-    omega (arith, short c.args.s.frame.place _ c.loop-i.i _ c.requires.bytes_bound.0 c.loop-i.invariant.1.1.0)
+    omega (arith, short c.args.s.frame.place _ c.loop-i.i _ c.requires.bytes_bound c.loop-i.invariant.1.1.0)
 
 pub overflow_add-f : goal.overflow_add-f
 overflow_add-f c =
-    omega (arith, short c.args.s.frame.place _ c.loop-i.i _ c.requires.bytes_bound.0 c.loop-i.invariant.1.1.0)
+    omega (arith, short c.args.s.frame.place _ c.loop-i.i _ c.requires.bytes_bound c.loop-i.invariant.1.1.0)
 
 pub overflow_cast-i-2 : goal.overflow_cast-i-2
 overflow_cast-i-2 c =
-    omega (arith, short c.args.s.frame.place _ c.loop-i.i _ c.requires.bytes_bound.0 c.loop-i.invariant.1.1.0)
+    omega (arith, short c.args.s.frame.place _ c.loop-i.i _ c.requires.bytes_bound c.loop-i.invariant.1.1.0)
 
 pub overflow_add-f-2 : goal.overflow_add-f-2
 overflow_add-f-2 c =
-    omega (arith, short c.args.s.frame.place _ c.loop-i.i _ c.requires.bytes_bound.0 c.loop-i.invariant.1.1.0)
+    omega (arith, short c.args.s.frame.place _ c.loop-i.i _ c.requires.bytes_bound c.loop-i.invariant.1.1.0)
 
 pub overflow_add-grid : goal.overflow_add-grid
 overflow_add-grid c =
@@ -61,7 +61,7 @@ overflow_add-grid c =
 
 pub bounds-grid-base : goal.bounds-grid-base
 bounds-grid-base c =
-    omega (arith, c.payload_base-base.ensures.place_bound, c.loop-i-test.true, c.requires.bytes_bound.0, c.loop-i.invariant.1.1.1)
+    omega (arith, c.payload_base-base.ensures.place_bound, c.loop-i-test.true, c.requires.bytes_bound, c.loop-i.invariant.1.1.1)
 
 pub loop-i-preserved : goal.loop-i-preserved
 unfolding ◌⊕◌
@@ -77,7 +77,7 @@ loop-i-preserved c =
     let grid_place : c.payload_base-base.result + i ≡ 2000 * (text_number s.frame.kind - 1) + (s.frame.place + i - 3) =
     omega (arith, c.payload_base-base.ensures.value, h.low) in (
       payload_byte_passed s h a.grid.now bytes c.loop-i.grid (s.frame.place + i) c.loop-i.check c.loop-i.seen c.loop-i.count i c.loop-i.invariant.0 here
-          (omega (arith, h.low)) (omega (arith, c.requires.bytes_bound.0, here)) good
+          (omega (arith, h.low)) (omega (arith, c.requires.bytes_bound, here)) good
           ∙ rw (c.pushed-seen.ensures, c.counted-count.ensures, grid_place, onward s.frame.place i),
       (allowed_on _ bytes i c.loop-i.invariant.1.0 here good, (omega (arith, here), length-set c.loop-i.grid _ _ ∙ c.loop-i.invariant.1.1.1)),
     )
@@ -96,7 +96,7 @@ pub payload_base-base-requires : goal.payload_base-base-requires
 payload_base-base-requires c = c.requires.frame_value
 
 pub shape_of-grid-then-not-is_payload_byte : goal.shape_of-grid-then-not-is_payload_byte
-shape_of-grid-then-not-is_payload_byte c = c.loop-i.invariant.1.1.1 ∙ sym c.requires.bytes_bound.1
+shape_of-grid-then-not-is_payload_byte c = c.loop-i.invariant.1.1.1 ∙ sym c.requires.grid_len
 
 pub shape_of-grid : goal.shape_of-grid
-shape_of-grid c = c.loop-i.invariant.1.1.1 ∙ sym c.requires.bytes_bound.1
+shape_of-grid c = c.loop-i.invariant.1.1.1 ∙ sym c.requires.grid_len

@@ -8,15 +8,15 @@ use Rattle.receiver_stretch_start_end.proofs.whole.end_ahead.Goals as goal
 
 pub slice_bounds-block-end : goal.slice_bounds-block-end
 slice_bounds-block-end c =
-    sym (length-take-le 32 c.args.bytes.now (omega (arith, c.requires.in_bounds.0)))
+    sym (length-take-le 32 c.args.bytes.now (omega (arith, c.requires.in_bounds)))
 
 pub bounds-block-1 : goal.bounds-block-1
 bounds-block-1 c =
-    in_block c.args.bytes.now 1 c.requires.in_bounds.0 (omega arith)
+    in_block c.args.bytes.now 1 c.requires.in_bounds (omega arith)
 
 pub bounds-block-2 : goal.bounds-block-2
 bounds-block-2 c =
-    in_block c.args.bytes.now 2 c.requires.in_bounds.0 (omega arith)
+    in_block c.args.bytes.now 2 c.requires.in_bounds (omega arith)
 
 pub returns-then-is_gap-picture : goal.returns-then-is_gap-picture
 returns-then-is_gap-picture c g =
@@ -31,11 +31,11 @@ returns-then-bytes-check c g =
 
 pub slice_bounds-seen_behind-end : goal.slice_bounds-seen_behind-end
 slice_bounds-seen_behind-end c =
-    sym (length-take-le 34 c.args.bytes.now (omega (arith, c.requires.in_bounds.0)))
+    sym (length-take-le 34 c.args.bytes.now (omega (arith, c.requires.in_bounds)))
 
 pub returns : goal.returns
 returns c =
     let a = c.args in
     rw c.with_modes-state.ensures
     (end_on a.s a.bytes.now c.is_gap.ensures c.kind_of.ensures c.if-is_gap-picture.false c.check_byte-check.ensures c.read_end-read.ensures c.if-bytes-check.false
-    (search (rules, c.well_formed.0.1.1.1.1.1.0)) c.requires.count_value c.requires.in_bounds.0 (λ j. omega (arith, c.shared_slice_known-1.given j)) c.requires.in_bounds.1 c.seen_behind-seen.ensures)
+    (search (rules, c.well_formed.0.1.1.1.1.1.0)) c.requires.count_value c.requires.in_bounds (λ j. omega (arith, c.shared_slice_known-1.given j)) c.requires.bytes_value c.seen_behind-seen.ensures)

@@ -37,20 +37,20 @@ module _ (s : State) (bytes : List ℕ) {o : Bool} (e : o ≡ ends_opening (seen
 
   -- the picture is unmarked, or marked
   module _ {m : Bool} (k : m ≡ is_marked s.marks (bytes ! 1)) where
-    unmarked_text : not m ≡ true → text_ahead s bytes ≡ 0
+    unmarked_text : m ≡ false → text_ahead s bytes ≡ 0
     unfolding text_ahead
     unmarked_text t =
-        by_if (λ n. n ≡ 0) (leb 34 (length bytes) && ends_opening (seen_of s.seen s.frame.count) FD) (λ _. rw (sym k ∙ not-true m t)) (λ _. refl)
+        by_if (λ n. n ≡ 0) (leb 34 (length bytes) && ends_opening (seen_of s.seen s.frame.count) FD) (λ _. rw (sym k ∙ t)) (λ _. refl)
 
-    start_text : {r : StretchResult} → (ltb (length bytes) 34 || not o) ≡ false → not m ≡ false → is_idle s.frame ≡ true → Passes s (take (start_ahead bytes) bytes) r
+    start_text : {r : StretchResult} → (ltb (length bytes) 34 || not o) ≡ false → m ≡ true → is_idle s.frame ≡ true → Passes s (take (start_ahead bytes) bytes) r
         → Passes s (take (text_ahead s bytes) bytes) r
     unfolding text_ahead
-    start_text {r} f t i p = let (l, n) = text_has f in rw (le-leb 34 (length bytes) l, n, sym k ∙ not-false m t, i) p
+    start_text {r} f t i p = let (l, n) = text_has f in rw (le-leb 34 (length bytes) l, n, sym k ∙ t, i) p
 
-    end_text : {r : StretchResult} → (ltb (length bytes) 34 || not o) ≡ false → not m ≡ false → is_idle s.frame ≡ false → Passes s (take (end_ahead s bytes) bytes) r
+    end_text : {r : StretchResult} → (ltb (length bytes) 34 || not o) ≡ false → m ≡ true → is_idle s.frame ≡ false → Passes s (take (end_ahead s bytes) bytes) r
         → Passes s (take (text_ahead s bytes) bytes) r
     unfolding text_ahead
-    end_text {r} f t i p = let (l, n) = text_has f in rw (le-leb 34 (length bytes) l, n, sym k ∙ not-false m t, i) p
+    end_text {r} f t i p = let (l, n) = text_has f in rw (le-leb 34 (length bytes) l, n, sym k ∙ t, i) p
 
 pub returns-then-bytes-ends_opening : goal.returns-then-bytes-ends_opening
 returns-then-bytes-ends_opening c g =

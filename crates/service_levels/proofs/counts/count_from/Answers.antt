@@ -1,9 +1,8 @@
 -- Level 0; above it the meshes of the stretches so far are counted. Assumes nothing.
 use mathlib.Core.Path.{◌≡◌, refl, sym, ap, ◌∙◌}
-use Prim.Native.Nat.{◌+◌, ◌*◌, ◌-◌, ◌%◌, ◌≤◌}
+use Prim.Native.Nat.{◌+◌, ◌*◌, ◌≤◌}
 use native.Mathlib.Omega.{arith}
 use lib.ListN.{length}
-use borrow.Author.Rules.{rules}
 use Rattle.service_levels.specs.Meshes.{count_to, meshes}
 use Rattle.service_levels.proofs.Counting.{all_at_0, stretch_length, stretch_on, count_most}
 use Rattle.service_levels.proofs.counts.count_from.Goals as goal
@@ -20,7 +19,11 @@ returns-then-level-eq0 c =
 pub count_past_dry-count-requires : goal.count_past_dry-count-requires
 count_past_dry-count-requires c =
     let a = c.args in
-    (omega (arith, c.if-level-eq0.false), omega (arith, stretch_length a.grid.now c.loop-at.at 160 (omega arith)))
+    record {
+      le_level = omega (arith, c.if-level-eq0.false);
+      level_bound = omega arith;
+      bytes_len_bound = omega (arith, stretch_length a.grid.now c.loop-at.at 160 (omega arith));
+    }
 
 pub overflow_add-count : goal.overflow_add-count
 overflow_add-count c =

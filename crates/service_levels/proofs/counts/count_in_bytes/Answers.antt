@@ -1,10 +1,9 @@
 -- The meshes of the bytes so far are counted. Assumes nothing.
 use mathlib.Core.Path.{◌≡◌, refl, ap, ◌∙◌}
-use Prim.Native.Nat.{◌+◌, ◌*◌, ◌-◌, ◌≤◌}
+use Prim.Native.Nat.{◌+◌, ◌*◌}
 use native.Mathlib.Omega.{arith}
 use lib.ListN.{length}
 use mir.Val.{bool_byte}
-use borrow.Author.Rules.{rules}
 use Rattle.general_laws.specs.Bytes.{◌!◌}
 use Rattle.text.specs.DataBlock.{odd_level}
 use Rattle.general_laws.proofs.Tests.{bool_byte_less}

@@ -1,8 +1,6 @@
 -- Byte by byte, or all dry bytes at once. Assumes nothing.
 use mathlib.Core.Path.{sym, ◌∙◌}
 use native.Mathlib.Omega.{arith}
-use borrow.Author.Rules.{rules}
-use borrow.Author.Tests.{not-false}
 use Rattle.service_levels.proofs.Counting.{dry_bytes}
 use Rattle.service_levels.proofs.counts.count_past_dry.Goals as goal
 

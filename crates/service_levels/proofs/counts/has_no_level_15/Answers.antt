@@ -1,12 +1,8 @@
 -- The highest byte and the highest even level so far say whether the bytes so far have no level 15. Assumes nothing.
-use mathlib.Core.Path.{◌≡◌, refl, ap, ◌∙◌}
+use mathlib.Core.Path.{refl, ap, ◌∙◌}
 use mathlib.Core.Bool.{◌&&◌}
-use Prim.Native.Nat.{◌-◌, ◌≤◌}
 use native.Mathlib.Omega.{arith}
-use lib.Dec.{leb}
-use lib.ListN.{length, take}
 use lib.Seq.{take_all}
-use borrow.Author.Rules.{rules}
 use Rattle.general_laws.specs.Bytes.{◌!◌, every}
 use Rattle.text.specs.DataBlock.{is_intensity_byte}
 use Rattle.general_laws.proofs.Lists.{every_on}
@@ -26,7 +22,7 @@ loop-i-preserved c =
     let taken = c.loop-i-test.true in (
       omega (arith, taken),
       rw (c.higher-highest.ensures, c.higher-highest_even.ensures, c.split-halves.ensures.even_value)
-          (levels_on c.loop-i.highest c.loop-i.highest-even (grid ! i)
+          (levels_on c.loop-i.highest c.loop-i.highest_even (grid ! i)
           ∙ ap (λ t. t && is_intensity_byte (grid ! i)) c.loop-i.invariant.1
           ∙ every_on grid i taken is_intensity_byte),
     )

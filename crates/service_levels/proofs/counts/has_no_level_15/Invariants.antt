@@ -1,17 +1,10 @@
 -- The highest byte and the highest even level so far say whether the bytes so far have no level 15. Assumes nothing.
-use mathlib.Core.Path.{◌≡◌, refl, ap, ◌∙◌}
+use mathlib.Core.Path.{◌≡◌}
 use mathlib.Core.Bool.{◌&&◌}
 use Prim.Native.Nat.{◌-◌, ◌≤◌}
-use native.Mathlib.Omega.{arith}
 use lib.Dec.{leb}
 use lib.ListN.{length, take}
-use lib.Seq.{take_all}
-use borrow.Author.Rules.{rules}
-use Rattle.general_laws.specs.Bytes.{◌!◌, every}
-use Rattle.text.specs.DataBlock.{is_intensity_byte}
-use Rattle.general_laws.proofs.Lists.{every_on}
 use Rattle.service_levels.specs.Meshes.{has_no_level_15}
-use Rattle.service_levels.proofs.Counting.{levels_on}
 use Rattle.service_levels.proofs.counts.has_no_level_15.Given as goal
 
 abbrev pub invariant-loop-i : goal.invariant-loop-i

@@ -1,9 +1,6 @@
 -- The refusals in their order; then the half of the byte in which the mesh stands. Assumes nothing.
-use mathlib.Core.Path.{sym, ap, ◌∙◌}
-use mathlib.Core.Bool.{not}
-use Prim.Native.Nat.{◌-◌, ◌/◌}
+use mathlib.Core.Path.{sym, ◌∙◌}
 use native.Mathlib.Omega.{arith}
-use borrow.Author.Rules.{rules}
 use borrow.Author.Tests.{eq-eqb, ne_eqb}
 use Rattle.text.specs.DataBlock.{odd_level, even_level}
 use Rattle.service_levels.specs.Meshes.{level_of, mesh_level}
@@ -58,9 +55,3 @@ returns c =
       no_mesh c.args.mesh ∙ c.if-mesh.false,
       ne_eqb _ _ c.if-mesh-eq1.false,
     )
-
-pub overflow_cast-result : goal.overflow_cast-result
-overflow_cast-result c = omega (arith, c.shared_slice_known-2-1.given ((c.args.mesh - 1) / 2))
-
-pub overflow_cast-result-2 : goal.overflow_cast-result-2
-overflow_cast-result-2 c = omega (arith, c.shared_slice_known-2-1.given ((c.args.mesh - 1) / 2))

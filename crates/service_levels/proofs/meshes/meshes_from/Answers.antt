@@ -1,8 +1,6 @@
 -- The refusals in their order; then the count. Assumes nothing.
 use mathlib.Core.Path.{sym, ap, ◌∙◌}
-use mathlib.Core.Bool.{not}
 use native.Mathlib.Omega.{arith}
-use borrow.Author.Rules.{rules}
 use borrow.Author.Tests.{eq-eqb, ne_eqb, le-leb, lt-leb}
 use Rattle.service_levels.specs.Meshes.{value, meshes_from}
 use Rattle.service_levels.specs.Returned.{answer_of}

@@ -1,7 +1,6 @@
 -- The refusals in their order, which leave the third grid as it was; then the higher levels. Assumes nothing.
-use mathlib.Core.Path.{sym, ap, ap₂, ◌∙◌}
-use mathlib.Core.Bool.{not, ◌&&◌}
-use borrow.Author.Rules.{rules}
+use mathlib.Core.Path.{sym, ap₂, ◌∙◌}
+use mathlib.Core.Bool.{◌&&◌}
 use Rattle.service_overlay_spec.specs.Overlay.{overlaid}
 use Rattle.service_overlay.specs.Returned.{outcome_of}
 use Rattle.text_laws.proofs.Payload.{intensity_is_payload}
@@ -20,13 +19,14 @@ returns-then-not-are_payload_bytes c =
     let a = c.args in
     simp (
       no_grids a.first.now a.second.now a.third.now ∙ c.if-first-second.false,
-      ap not (ap₂ (λ x y. x && y) (intensity_is_payload _ ∙ sym c.are_payload_bytes.ensures) (intensity_is_payload _ ∙ sym c.are_payload_bytes-2.ensures)) ∙ c.if-not-are_payload_bytes.true,
+      ap₂ (λ x y. x && y) (intensity_is_payload _ ∙ sym c.are_payload_bytes.ensures) (intensity_is_payload _ ∙ sym c.are_payload_bytes-2.ensures) ∙ c.if-not-are_payload_bytes.true,
     )
 
 pub overlay_bytes-requires : goal.overlay_bytes-requires
 overlay_bytes-requires c =
     let a = c.args in
-    one_length a.first.now a.second.now a.third.now c.if-first-second.false
+    let (p, q) = one_length a.first.now a.second.now a.third.now c.if-first-second.false in
+    record { first_len = p; second_len = q }
 
 pub returns : goal.returns
 unfolding outcome_of overlaid
@@ -34,6 +34,6 @@ returns c =
     let a = c.args in
     simp (
       no_grids a.first.now a.second.now a.third.now ∙ c.if-first-second.false,
-      ap not (ap₂ (λ x y. x && y) (intensity_is_payload _ ∙ sym c.are_payload_bytes.ensures) (intensity_is_payload _ ∙ sym c.are_payload_bytes-2.ensures)) ∙ c.if-not-are_payload_bytes.false,
+      ap₂ (λ x y. x && y) (intensity_is_payload _ ∙ sym c.are_payload_bytes.ensures) (intensity_is_payload _ ∙ sym c.are_payload_bytes-2.ensures) ∙ c.if-not-are_payload_bytes.false,
       c.overlay_bytes.ensures,
     )

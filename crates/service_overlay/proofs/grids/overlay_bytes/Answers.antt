@@ -1,11 +1,7 @@
 -- The bytes so far are the higher ones, the others as they were. Assumes nothing.
-use mathlib.Core.Path.{◌≡◌, refl, ◌∙◌}
-use Prim.Native.Nat.{◌-◌, ◌≤◌}
+use mathlib.Core.Path.{refl, ◌∙◌}
 use native.Mathlib.Omega.{arith}
-use lib.ListN.{length, take, length-set}
-use lib.Seq.{sets}
-use borrow.Author.Rules.{rules}
-use Rattle.service_overlay_spec.specs.Overlay.{higher}
+use lib.ListN.{length-set}
 use Rattle.service_overlay.proofs.Overlaying.{overlay_on, overlay_all}
 use Rattle.service_overlay.proofs.grids.overlay_bytes.Goals as goal
 

@@ -1,12 +1,9 @@
 -- The bytes so far are the higher ones, the others as they were. Assumes nothing.
-use mathlib.Core.Path.{◌≡◌, refl, ◌∙◌}
+use mathlib.Core.Path.{◌≡◌}
 use Prim.Native.Nat.{◌-◌, ◌≤◌}
-use native.Mathlib.Omega.{arith}
-use lib.ListN.{length, take, length-set}
+use lib.ListN.{length, take}
 use lib.Seq.{sets}
-use borrow.Author.Rules.{rules}
 use Rattle.service_overlay_spec.specs.Overlay.{higher}
-use Rattle.service_overlay.proofs.Overlaying.{overlay_on, overlay_all}
 use Rattle.service_overlay.proofs.grids.overlay_bytes.Given as goal
 
 abbrev pub invariant-loop-i : goal.invariant-loop-i

@@ -1,12 +1,10 @@
 -- The bytes so far are 0, or some byte is not. Assumes nothing.
-use mathlib.Core.Path.{◌≡◌, refl, ap, ◌∙◌}
+use mathlib.Core.Path.{refl, ap, ◌∙◌}
 use mathlib.Core.Bool.{◌&&◌}
-use Prim.Native.Nat.{◌-◌, ◌≤◌}
 use native.Mathlib.Omega.{arith}
 use lib.Dec.{eqb}
-use lib.ListN.{length, get_or, take}
+use lib.ListN.{get_or}
 use lib.Seq.{take_all}
-use borrow.Author.Rules.{rules}
 use Rattle.general_laws.specs.Bytes.{every}
 use Rattle.general_laws.proofs.Lists.{every_on}
 use Rattle.text.proofs.bytes.are_zero.Goals as goal

@@ -1,14 +1,9 @@
 -- The bytes so far are 0, or some byte is not. Assumes nothing.
-use mathlib.Core.Path.{◌≡◌, refl, ap, ◌∙◌}
-use mathlib.Core.Bool.{◌&&◌}
+use mathlib.Core.Path.{◌≡◌}
 use Prim.Native.Nat.{◌-◌, ◌≤◌}
-use native.Mathlib.Omega.{arith}
 use lib.Dec.{eqb}
-use lib.ListN.{length, get_or, take}
-use lib.Seq.{take_all}
-use borrow.Author.Rules.{rules}
+use lib.ListN.{length, take}
 use Rattle.general_laws.specs.Bytes.{every}
-use Rattle.general_laws.proofs.Lists.{every_on}
 use Rattle.text.proofs.bytes.are_zero.Given as goal
 
 abbrev pub invariant-loop-i : goal.invariant-loop-i

@@ -1,7 +1,6 @@
 -- The block's exclusive or and `FE`. Assumes nothing.
 use mathlib.Core.Path.{ap}
 use lib.Bits.{bit_xor}
-use borrow.Author.Rules.{rules}
 use Rattle.text.specs.Text.{EOR, check_byte}
 use Rattle.text.proofs.check.check_byte.Goals as goal
 

@@ -1,14 +1,9 @@
 -- The bytes so far keep the rule, or some byte does not. Assumes nothing.
-use mathlib.Core.Path.{◌≡◌, refl, ap, ap₂, ◌∙◌}
-use mathlib.Core.Bool.{◌&&◌}
+use mathlib.Core.Path.{◌≡◌}
 use Prim.Native.Nat.{◌-◌, ◌≤◌}
-use native.Mathlib.Omega.{arith}
 use lib.ListN.{length, take}
-use lib.Seq.{take_all}
-use borrow.Author.Rules.{rules}
 use Rattle.general_laws.specs.Bytes.{every}
 use Rattle.text.specs.DataBlock.{is_payload_byte}
-use Rattle.general_laws.proofs.Lists.{every_on}
 use Rattle.text.proofs.payload.are_payload_bytes.Given as goal
 
 abbrev pub invariant-loop-i : goal.invariant-loop-i

@@ -1,6 +1,5 @@
 -- The sum is the definition. Assumes nothing.
 use mathlib.Core.Path.{refl}
-use borrow.Author.Rules.{rules}
 use Rattle.text.specs.StartBlock.{clock_of}
 use Rattle.text_status.proofs.status.clock_of.Goals as goal
 

@@ -5,7 +5,8 @@ use Prim.Native.Nat.{ℕ, ◌<◌}
 use lib.Dec.{eqb}
 use lib.Bits.{bit_and}
 use borrow.Author.Rules.{rules}
-use borrow.Author.Tests.{ne_eqb}
+use native.Mathlib.Omega.{arith}
+use Rattle.std.proofs.lemmas.Bool.Decides.{nat_tests}
 use Rattle.general_laws.specs.Bytes.{bit}
 use Rattle.text.specs.StartBlock.{mode_of}
 use Rattle.general_laws.proofs.Computed.{same_numbers}
@@ -19,15 +20,14 @@ unfolding mode_of bit
 rule = same_numbers 256 (λ b. by_mask (bit_and b 0x54)) mode_of tt
 
 pub returns-in-4 : goal.returns-in-4
-returns-in-4 c = sym (ap by_mask c.in_default.keys1) ∙ rule c.args.b (search rules)
+returns-in-4 c = sym (ap by_mask c.in-4.is) ∙ rule c.args.b (search rules)
 
 pub returns-in-16 : goal.returns-in-16
-returns-in-16 c = sym (ap by_mask c.in_default.keys2) ∙ rule c.args.b (search rules)
+returns-in-16 c = sym (ap by_mask c.in-16.is) ∙ rule c.args.b (search rules)
 
 pub returns-in-64 : goal.returns-in-64
-returns-in-64 c = sym (ap by_mask c.in_default.keys3) ∙ rule c.args.b (search rules)
+returns-in-64 c = sym (ap by_mask c.in-64.is) ∙ rule c.args.b (search rules)
 
 pub returns-in_default : goal.returns-in_default
 returns-in_default c =
-    let r = c.in_default.rest in
-    rw (← rule c.args.b (search rules)) (simp (ne_eqb _ _ r.0.0.1, ne_eqb _ _ r.0.1, ne_eqb _ _ r.1))
+    rw (← rule c.args.b (search rules)) (grind (arith, nat_tests))
