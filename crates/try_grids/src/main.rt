@@ -20,8 +20,8 @@ fn number_of(found: MeshResult) -> u64 {
 }
 
 fn count<W: Write>(out: &mut W, grid: &[u8], level: u8) -> io::Result<()> {
-    let number = number_of(meshes_from(grid, level));
-    write!(out, "{number}")
+    let n = number_of(meshes_from(grid, level));
+    write!(out, "{n}")
 }
 
 // The overlay of a grid and those before it; says whether it stands in `after`
@@ -69,7 +69,7 @@ fn turn<W: Write>(
 
 // A proved loop has to end, and nothing says that the input does: the loop has more turns than any
 // run uses up
-fn all_lines<R: Read, W: Write>(input: &mut R, out: &mut W) -> io::Result<()> {
+fn grids<R: Read, W: Write>(input: &mut R, out: &mut W) -> io::Result<()> {
     let mut grid = [0u8; 20000];
     let mut one = [0u8; 20000];
     let mut two = [0u8; 20000];
@@ -80,10 +80,11 @@ fn all_lines<R: Read, W: Write>(input: &mut R, out: &mut W) -> io::Result<()> {
         }
         in_two = turn(out, &grid, &mut one, &mut two, in_two)?;
     }
-    out.flush()
+    Ok(())
 }
 
 fn main(rt: HostRuntime) -> io::Result<()> {
     let mut out = BufWriter::new(rt.alloc(), rt.stdout())?;
-    all_lines(&mut rt.stdin(), &mut out)
+    grids(&mut rt.stdin(), &mut out)?;
+    out.flush()
 }

@@ -50,11 +50,11 @@ pub fn line<W: Write>(out: &mut W, asked: u8, args: &[u8]) -> io::Result<()>
 {
     write!(out, "{asked}")?;
     match asked {
-        50 => times::check(out, args)?,
-        56 => writer_headers::writer_header_of_header(out, args)?,
-        58 => times::digits(out, args)?,
-        64 => blocks::put_into(out, args)?,
-        _ => results(out, asked, args)?,
-    }
-    writeln!(out)
+        50 => times::check(out, args),
+        56 => writer_headers::writer_header_of_header(out, args),
+        58 => times::digits(out, args),
+        64 => blocks::put_into(out, args),
+        _ => results(out, asked, args),
+    }?;
+    out.write_all(b"\n")
 }

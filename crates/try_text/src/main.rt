@@ -44,19 +44,22 @@ fn request<R: Read, W: Write>(
 
 // A proved loop has to end, and nothing says that the input does: the loop has more turns than any
 // run uses up
-fn all_requests<R: Read, W: Write>(input: &mut R, out: &mut W) -> io::Result<()> {
+fn requests<R: Read, W: Write>(input: &mut R, out: &mut W, space: &mut [u8]) -> io::Result<()>
+    requires { length space.old ≡ 65536 }
+{
     let mut head = [0u8; 3];
-    let mut space = [0u8; 65536];
     for _ in 0..u64::MAX {
         if read_full(input, &mut head)? != 3 {
             break;
         }
-        request(input, out, &head, &mut space)?;
+        request(input, out, &head, space)?;
     }
-    out.flush()
+    Ok(())
 }
 
 fn main(rt: HostRuntime) -> io::Result<()> {
+    let mut space = [0u8; 65536];
     let mut out = BufWriter::new(rt.alloc(), rt.stdout())?;
-    all_requests(&mut rt.stdin(), &mut out)
+    requests(&mut rt.stdin(), &mut out, &mut space)?;
+    out.flush()
 }
