@@ -1,10 +1,12 @@
 // The arguments: the picture codes to mark, each as two hexadecimal digits in upper or lower case
 // (Request 101).
-ghost use Rattle.std.specs.Prelude.{◌≡◌};
+ghost use Rattle.std.specs.Prelude.{◌≡◌, ◌≤◌, length};
 ghost use Rattle.decode.specs.Arguments.{before_arguments, with_code};
 
-use libc::STDERR_FILENO;
 use receiver_marks::marks::{all_marks, mark_of};
+use std::env::{Env, FillError};
+use std::io;
+use std::io::Write;
 use text_code_words::words::code_of;
 use text_codes::table::is_picture_code;
 
@@ -18,13 +20,36 @@ pub struct Asked {
 // How many bytes an argument has at most that is named with its bytes
 const LONGEST: usize = 4095;
 
-// A program has no exit status, so a wrong argument is told on standard error
-fn name_wrong(number: usize, word: &[u8]) {
-    io::write_all(STDERR_FILENO, b"decode: argument ");
-    io::print_decimal(STDERR_FILENO, number as u64);
-    io::write_all(STDERR_FILENO, b" is no listed picture code: ");
-    io::write_all(STDERR_FILENO, word);
-    io::write_all(STDERR_FILENO, b"\n");
+// Tells that an argument is wrong
+fn name_wrong<W: Write>(errors: &mut W, number: usize, word: &[u8]) -> io::Result<()> {
+    write!(
+        errors,
+        "decode: argument {number} is no listed picture code: "
+    )?;
+    errors.write_all(word)?;
+    errors.write_all(b"\n")
+}
+
+// How many arguments there are, with the program's name
+fn argument_count<E: Env>(env: &E) -> usize {
+    let mut buffer = [0u8; 1];
+    for number in 0..usize::MAX {
+        if let Err(FillError::NotPresent) = env.arg(number, &mut buffer) {
+            return number;
+        }
+    }
+    usize::MAX
+}
+
+// Puts an argument at the front of the buffer, and gives how many bytes it has: none where it is
+// longer than the buffer
+fn argument<E: Env>(env: &E, number: usize, buffer: &mut [u8]) -> usize
+    ensures { result ≤ length buffer.new }
+{
+    match env.arg(number, buffer) {
+        Ok(n) => n,
+        Err(_) => 0,
+    }
 }
 
 // What is asked for before the first argument: all twenty pictures where there is none
@@ -56,25 +81,31 @@ fn with_code(asked: Asked, code: u8) -> Asked
 }
 
 // One argument more. One that is longer than the buffer comes as an empty one, and both are wrong
-fn with_argument(asked: Asked, number: usize, buffer: &mut [u8]) -> Asked {
-    let n = os::arg(number, buffer);
+fn with_argument<E: Env, W: Write>(
+    env: &E,
+    errors: &mut W,
+    asked: Asked,
+    number: usize,
+    buffer: &mut [u8],
+) -> io::Result<Asked> {
+    let n = argument(env, number, buffer);
     let code = code_of(&buffer[..n]);
     if !is_picture_code(code) {
-        name_wrong(number, &buffer[..n]);
+        name_wrong(errors, number, &buffer[..n])?;
     }
-    with_code(asked, code)
+    Ok(with_code(asked, code))
 }
 
 // What the arguments ask for. Reads every one, also behind a wrong one, so that all wrong ones are
 // named. Argument 0 is the program's name
-pub fn read() -> Asked {
-    let count = os::arg_count();
+pub fn read<E: Env, W: Write>(env: &E, errors: &mut W) -> io::Result<Asked> {
+    let count = argument_count(env);
     let mut buffer = [0u8; LONGEST];
     let mut asked = before_arguments(count);
     let mut number = 1;
     while number < count {
-        asked = with_argument(asked, number, &mut buffer);
+        asked = with_argument(env, errors, asked, number, &mut buffer)?;
         number += 1;
     }
-    asked
+    Ok(asked)
 }

@@ -1,6 +1,8 @@
 // The line at the front: which pictures are marked (Request 101).
-use crate::line::{Buffer, flush, put, put_byte, put_hex};
+use crate::line::{put, put_byte, put_hex};
 use receiver_marks::marks::is_marked;
+use std::io;
+use std::io::Write;
 
 // The first of 01's picture codes
 const FIRST: u8 = 0xC0;
@@ -9,30 +11,28 @@ const FIRST: u8 = 0xC0;
 const LAST: u8 = 0xF1;
 
 // Nothing for a byte that is no marked picture's code
-fn put_marked(out: &mut Buffer, used: usize, marks: u32, code: u8) -> usize {
+fn put_marked<W: Write>(out: &mut W, marks: u32, code: u8) -> io::Result<()> {
     if !is_marked(marks, code) {
-        return used;
+        return Ok(());
     }
-    let spaced = put_byte(out, used, b' ');
-    put_hex(out, spaced, code)
+    put_byte(out, b' ')?;
+    put_hex(out, code)
 }
 
 // The marked codes in 01's order, which rises
-fn put_all_marked(out: &mut Buffer, used: usize, marks: u32) -> usize {
-    let mut at = used;
+fn put_all_marked<W: Write>(out: &mut W, marks: u32) -> io::Result<()> {
     let mut code = FIRST;
     while code <= LAST {
-        at = put_marked(out, at, marks, code);
+        put_marked(out, marks, code)?;
         code += 1;
     }
-    at
+    Ok(())
 }
 
-// Writes the line and an empty one, and gives whether they are written
-pub fn first_lines(marks: u32) -> bool {
-    let mut out = io::buffer();
-    let begun = put(&mut out, 0, b"marked pictures");
-    let listed = put_all_marked(&mut out, begun, marks);
-    let ended = put(&mut out, listed, b"\n\n");
-    flush(&out, ended)
+// Writes the line and an empty one
+pub fn first_lines<W: Write>(out: &mut W, marks: u32) -> io::Result<()> {
+    put(out, b"marked pictures")?;
+    put_all_marked(out, marks)?;
+    put(out, b"\n\n")?;
+    out.flush()
 }

@@ -1,7 +1,9 @@
 // How many meshes a complete intensity or echo top part has at each level.
 use crate::counts::{bytes_at, meshes_at};
-use crate::line::{Buffer, put, put_entry, put_labelled, put_number};
+use crate::line::{put, put_entry, put_labelled, put_number};
 use service_levels::result::MeshResult;
+use std::io;
+use std::io::Write;
 
 // What each level of intensity stands for. Notice 49, 5(3)(3-1)
 const RAIN: [u8; 300] = *b"\
@@ -34,53 +36,51 @@ const HEIGHT: [u8; 153] = *b"\
     \x08 14 km and above";
 
 // How many meshes there are at a level or of a value: five digits hold 40,000
-pub fn put_meshes(out: &mut Buffer, used: usize, meshes: usize) -> usize {
-    let at = put_number(out, used, meshes as u64, 7);
-    put(out, at, b" meshes ")
+pub fn put_meshes<W: Write>(out: &mut W, meshes: usize) -> io::Result<()> {
+    put_number(out, meshes as u64, 7)?;
+    put(out, b" meshes ")
 }
 
 // No line for a level that does not occur
-fn level_line(out: &mut Buffer, used: usize, level: u8, meshes: usize, ranges: &[u8]) -> usize {
+fn level_line<W: Write>(out: &mut W, level: u8, meshes: usize, ranges: &[u8]) -> io::Result<()> {
     if meshes == 0 {
-        return used;
+        return Ok(());
     }
-    let levelled = put_labelled(out, used, b"\n  level ", level as u64, 2);
-    let counted = put_meshes(out, levelled, meshes);
-    put_entry(out, counted, ranges, level)
+    put_labelled(out, b"\n  level ", level as u64, 2)?;
+    put_meshes(out, meshes)?;
+    put_entry(out, ranges, level)
 }
 
-fn refused_line(out: &mut Buffer, used: usize, level: u8, row: u8) -> usize {
-    let levelled = put_labelled(out, used, b"\n  level ", level as u64, 2);
-    put_labelled(out, levelled, b"  refused ", row as u64, 0)
+fn refused_line<W: Write>(out: &mut W, level: u8, row: u8) -> io::Result<()> {
+    put_labelled(out, b"\n  level ", level as u64, 2)?;
+    put_labelled(out, b"  refused ", row as u64, 0)
 }
 
 // A complete part's grid is not refused: it has its 20,000 bytes and no level 15
-fn intensity_line(out: &mut Buffer, used: usize, grid: &[u8], level: u8) -> usize {
+fn intensity_line<W: Write>(out: &mut W, grid: &[u8], level: u8) -> io::Result<()> {
     let found = meshes_at(grid, level);
     match found {
-        MeshResult::Value(n) => level_line(out, used, level, n as usize, &RAIN),
-        MeshResult::Refused(row) => refused_line(out, used, level, row),
+        MeshResult::Value(n) => level_line(out, level, n as usize, &RAIN),
+        MeshResult::Refused(row) => refused_line(out, level, row),
     }
 }
 
 // The 40,000 meshes of an intensity part. Notice 49, 5(3)(3-1)
-pub fn intensity(out: &mut Buffer, used: usize, grid: &[u8]) -> usize {
-    let mut at = used;
+pub fn intensity<W: Write>(out: &mut W, grid: &[u8]) -> io::Result<()> {
     let mut level = 0;
     while level <= 14 {
-        at = intensity_line(out, at, grid, level);
+        intensity_line(out, grid, level)?;
         level += 1;
     }
-    at
+    Ok(())
 }
 
 // The 400 meshes of an echo top part. Notice 49, 5(3)(3-2)
-pub fn tops(out: &mut Buffer, used: usize, payload: &[u8]) -> usize {
-    let mut at = used;
+pub fn tops<W: Write>(out: &mut W, payload: &[u8]) -> io::Result<()> {
     let mut level = 0;
     while level <= 8 {
-        at = level_line(out, at, level, bytes_at(payload, level), &HEIGHT);
+        level_line(out, level, bytes_at(payload, level), &HEIGHT)?;
         level += 1;
     }
-    at
+    Ok(())
 }

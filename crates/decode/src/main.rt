@@ -43,18 +43,17 @@ mod part; // the block of a part
 mod quality; // the lines of quality values
 mod totals; // how often each answer came
 
-use libc::{STDERR_FILENO, STDIN_FILENO};
 use receiver_slice_call::calls::slice_call;
 use receiver_state::answer::{Answer, number_of};
 use receiver_state::state::{State, fresh};
+use std::io;
+use std::io::{BufWriter, Read, Write};
 
-// The receiver after some bytes, how many they were, whether all lines so far are written, and
-// whether to go on
+// The receiver after some bytes, how many they were, and whether to go on
 #[derive(Clone, Copy)]
 struct FeedResult {
     state: State,
     total: u64,
-    written: bool,
     goes_on: bool,
 }
 
@@ -75,129 +74,119 @@ fn complete_part(answer: Answer) -> u8 {
     }
 }
 
-// Counts the answer at the last of `taken` bytes more, writes the block of a part that is complete,
-// and gives whether it is written
-fn report(
+// Counts the answer at the last of `taken` bytes more, and writes the block of a part that is
+// complete
+fn report<W: Write>(
+    out: &mut W,
     answer: Answer,
     total: u64,
     taken: usize,
     state: State,
     grid: &[u8],
     counts: &mut [u64],
-) -> bool {
+) -> io::Result<()> {
     let number = number_of(answer);
     let part = complete_part(answer);
     let count = totals::counted(counts, number);
-    part::block(number, count, more(total, taken), part, state, grid)
+    part::block(out, number, count, more(total, taken), part, state, grid)
 }
 
 // Gives the bytes to the receiver, counts its answers, and writes the block of each part that is
 // complete
-fn feed(state: State, total: u64, grid: &mut [u8], bytes: &[u8], counts: &mut [u64]) -> FeedResult {
+fn feed<W: Write>(
+    out: &mut W,
+    state: State,
+    total: u64,
+    grid: &mut [u8],
+    bytes: &[u8],
+    counts: &mut [u64],
+) -> io::Result<FeedResult> {
     let mut s = state;
     let mut at = 0;
     while at < bytes.len() {
         let result = slice_call(s, grid, &bytes[at..]);
         let taken = result.count;
         if taken == 0 {
-            return FeedResult {
+            return Ok(FeedResult {
                 state: s,
                 total,
-                written: true,
                 goes_on: false,
-            };
+            });
         }
         at += taken;
         let next = result.state;
         s = next;
         let answer = result.answer;
-        if !report(answer, total, at, s, grid, counts) {
-            return FeedResult {
-                state: s,
-                total,
-                written: false,
-                goes_on: false,
-            };
-        }
+        report(out, answer, total, at, s, grid, counts)?;
     }
-    FeedResult {
+    Ok(FeedResult {
         state: s,
         total: more(total, at),
-        written: true,
         goes_on: true,
-    }
+    })
 }
 
-// Reads once, as much as there is, and gives it to the receiver. A program has no exit status, so a
-// read that failed is told on standard error
-fn read_and_feed(
+// Reads once, as much as there is, and gives it to the receiver
+fn read_and_feed<R: Read, W: Write>(
+    input: &mut R,
+    out: &mut W,
     fed: FeedResult,
     grid: &mut [u8],
     buffer: &mut [u8],
     counts: &mut [u64],
-) -> FeedResult {
+) -> io::Result<FeedResult> {
     let state = fed.state;
-    let read = libc::read(STDIN_FILENO, buffer);
-    if read < 0 {
-        io::write_all(STDERR_FILENO, b"decode: standard input cannot be read\n");
-    }
-    if read <= 0 {
-        return FeedResult {
+    let n = input.read(buffer)?;
+    if n == 0 {
+        return Ok(FeedResult {
             state,
             total: fed.total,
-            written: true,
             goes_on: false,
-        };
+        });
     }
-    let n = io::count(read, buffer);
-    feed(state, fed.total, grid, &buffer[..n], counts)
+    feed(out, state, fed.total, grid, &buffer[..n], counts)
 }
 
-// A proved loop has to end, and nothing says that the input does: the loop counts its turns down,
-// from a number that no run uses up
-fn feed_all(marks: u32, grid: &mut [u8], buffer: &mut [u8], counts: &mut [u64]) -> FeedResult {
+// A proved loop has to end, and nothing says that the input does: the loop has more turns than any
+// run uses up
+fn feed_all<R: Read, W: Write>(
+    input: &mut R,
+    out: &mut W,
+    marks: u32,
+    grid: &mut [u8],
+    buffer: &mut [u8],
+    counts: &mut [u64],
+) -> io::Result<FeedResult> {
     let mut fed = FeedResult {
         state: fresh(marks),
         total: 0,
-        written: true,
         goes_on: true,
     };
-    let mut turns = u64::MAX;
-    while turns > 0 {
-        fed = read_and_feed(fed, grid, buffer, counts);
+    for _ in 0..u64::MAX {
+        fed = read_and_feed(input, out, fed, grid, buffer, counts)?;
         if !fed.goes_on {
-            return fed;
+            break;
         }
-        turns -= 1;
     }
-    fed
+    Ok(fed)
 }
 
-// Decodes what is read, with these pictures marked, and gives whether all lines are written
-fn decode_input(marks: u32) -> bool {
-    if !heading::first_lines(marks) {
-        return false;
-    }
+// Decodes what is read, with these pictures marked
+fn decode_input<R: Read, W: Write>(input: &mut R, out: &mut W, marks: u32) -> io::Result<()> {
+    heading::first_lines(out, marks)?;
     let mut grid = [0u8; 20000];
-    let mut buffer = io::large_buffer();
+    let mut buffer = [0u8; 65536];
     let mut counts = [0u64; totals::PLACES];
-    let fed = feed_all(marks, &mut grid, &mut buffer, &mut counts);
-    if !fed.written {
-        return false;
-    }
-    totals::last_lines(&counts, fed.total)
+    let fed = feed_all(input, out, marks, &mut grid, &mut buffer, &mut counts)?;
+    totals::last_lines(out, &counts, fed.total)
 }
 
-// Nothing is decoded where an argument is wrong. A write that failed is told on standard error too
-fn main() {
-    let asked = arguments::read();
+// Nothing is decoded where an argument is wrong
+fn main(rt: HostRuntime) -> io::Result<()> {
+    let asked = arguments::read(&rt, &mut rt.stderr())?;
     if !asked.right {
-        return;
+        return Ok(());
     }
-    if !decode_input(asked.marks) {
-        io::write_all(
-            STDERR_FILENO,
-            b"decode: standard output cannot be written\n",
-        );
-    }
+    let mut out = BufWriter::new(rt.alloc(), rt.stdout())?;
+    decode_input(&mut rt.stdin(), &mut out, asked.marks)
 }

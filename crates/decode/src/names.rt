@@ -1,14 +1,15 @@
 // Names of pictures and radars. A byte string takes no letter past ASCII: the names stand in UTF-8 by
 // their bytes, and in letters, in the same order, above them.
-use crate::line::{Buffer, put_entry};
+use crate::line::put_entry;
+use std::io;
+use std::io::Write;
 
 // The name of a picture, by its picture code. Notice 49, 5(1)
 //   東北海道 西北海道 北北海道 北部東北 南部東北 東部北陸 西部北陸 関東地方 東部東海 西部東海
 //   北部近畿 南部近畿 中国地方 四国地方 北部福岡 南部福岡 北鹿児島 南鹿児島 東部沖縄 西部沖縄
-pub fn put_picture(out: &mut Buffer, used: usize, code: u8) -> usize {
+pub fn put_picture<W: Write>(out: &mut W, code: u8) -> io::Result<()> {
     put_entry(
         out,
-        used,
         b"\
         \xC0 \xE6\x9D\xB1\xE5\x8C\x97\xE6\xB5\xB7\xE9\x81\x93|\
         \xC1 \xE8\xA5\xBF\xE5\x8C\x97\xE6\xB5\xB7\xE9\x81\x93|\
@@ -37,10 +38,9 @@ pub fn put_picture(out: &mut Buffer, used: usize, code: u8) -> usize {
 // The name of a radar, by its radar code. Notice 49, 5(2)
 //   札幌 釧路 函館 仙台 秋田 東京 新潟 福井 名古屋 大阪 松江
 //   広島 室戸岬 福岡 種子島 名瀬 沖縄 石垣島 長野 静岡 富士山
-pub fn put_radar(out: &mut Buffer, used: usize, code: u8) -> usize {
+pub fn put_radar<W: Write>(out: &mut W, code: u8) -> io::Result<()> {
     put_entry(
         out,
-        used,
         b"\
         \xA0 \xE6\x9C\xAD\xE5\xB9\x8C|\
         \xA1 \xE9\x87\xA7\xE8\xB7\xAF|\

@@ -1,6 +1,8 @@
 // How often each answer came: a count for each number to 22, and behind them one for 51
 // (Request 101).
-use crate::line::{Buffer, flush, put_byte, put_entry, put_labelled};
+use crate::line::{put_byte, put_entry, put_labelled};
+use std::io;
+use std::io::Write;
 
 // How many counts there are
 pub const PLACES: usize = 24;
@@ -39,10 +41,9 @@ pub fn counted(counts: &mut [u64], number: u8) -> u64 {
 }
 
 // What an answer says, in the words of 01's table and, of 51, of Request 101
-fn put_meaning(out: &mut Buffer, used: usize, number: u8) -> usize {
+fn put_meaning<W: Write>(out: &mut W, number: u8) -> io::Result<()> {
     put_entry(
         out,
-        used,
         b"\
         \x01  part begun|\
         \x02  data text taken|\
@@ -65,32 +66,30 @@ fn put_meaning(out: &mut Buffer, used: usize, number: u8) -> usize {
 }
 
 // No line for an answer that did not come
-fn answer_line(out: &mut Buffer, used: usize, number: u8, count: u64) -> usize {
+fn answer_line<W: Write>(out: &mut W, number: u8, count: u64) -> io::Result<()> {
     if count == 0 {
-        return used;
+        return Ok(());
     }
-    let numbered = put_labelled(out, used, b"answer ", number as u64, 2);
-    let counted = put_labelled(out, numbered, b"  ", count, 8);
-    let meant = put_meaning(out, counted, number);
-    put_byte(out, meant, b'\n')
+    put_labelled(out, b"answer ", number as u64, 2)?;
+    put_labelled(out, b"  ", count, 8)?;
+    put_meaning(out, number)?;
+    put_byte(out, b'\n')
 }
 
 // A line for each answer but 0 that came
-fn answer_lines(out: &mut Buffer, counts: &[u64; PLACES]) -> usize {
-    let mut at = 0;
+fn answer_lines<W: Write>(out: &mut W, counts: &[u64; PLACES]) -> io::Result<()> {
     let mut number = 1;
     while number <= 22 {
-        at = answer_line(out, at, number, counts[number as usize]);
+        answer_line(out, number, counts[number as usize])?;
         number += 1;
     }
-    answer_line(out, at, UNMARKED, counts[UNMARKED_PLACE])
+    answer_line(out, UNMARKED, counts[UNMARKED_PLACE])
 }
 
-// Writes the lines at the end, and gives whether they are written
-pub fn last_lines(counts: &[u64; PLACES], total: u64) -> bool {
-    let mut out = io::buffer();
-    let answered = answer_lines(&mut out, counts);
-    let counted = put_labelled(&mut out, answered, b"bytes ", total, 0);
-    let ended = put_byte(&mut out, counted, b'\n');
-    flush(&out, ended)
+// Writes the lines at the end
+pub fn last_lines<W: Write>(out: &mut W, counts: &[u64; PLACES], total: u64) -> io::Result<()> {
+    answer_lines(out, counts)?;
+    put_labelled(out, b"bytes ", total, 0)?;
+    put_byte(out, b'\n')?;
+    out.flush()
 }

@@ -8,7 +8,8 @@
 
 ghost use Rattle.std.specs.Prelude.{◌≤◌};
 
-use libc::{STDERR_FILENO, STDIN_FILENO, STDOUT_FILENO};
+use std::io;
+use std::io::{Read, Write};
 use terminal::{
     Answer, State, WriteResult, all_marks, fresh, payload_length, slice_call, write_part,
     writer_header_of,
@@ -31,112 +32,127 @@ fn within(n: usize, most: usize) -> usize
     n
 }
 
-// Writes the first `n` bytes of the output, and gives whether they are written. A program has no exit
-// status, so a write that failed is told on standard error
-fn write_first(output: &[u8], n: usize) -> bool {
+// Writes the first `n` bytes of the output
+fn write_first<W: Write>(out: &mut W, output: &[u8], n: usize) -> io::Result<()> {
     let all = within(n, output.len());
-    let written = io::write_all(STDOUT_FILENO, &output[..all]);
-    if !written {
-        io::write_all(
-            STDERR_FILENO,
-            b"resend: standard output cannot be written\n",
-        );
-    }
-    written
+    out.write_all(&output[..all])?;
+    out.flush()
 }
 
 // Writes the part that is held; a part that came complete is never refused
-fn send(part: u8, held: State, grid: &[u8], output: &mut [u8]) -> bool {
+fn send<W: Write>(
+    out: &mut W,
+    part: u8,
+    held: State,
+    grid: &[u8],
+    output: &mut [u8],
+) -> io::Result<()> {
     let header = held.header;
     let modes = held.modes;
     let n = within(payload_length(part), grid.len());
     let result = write_part(part, writer_header_of(header), modes, &grid[..n], output);
     match result {
-        WriteResult::Bytes(long) => write_first(output, long),
-        WriteResult::Refused(_) => true,
+        WriteResult::Bytes(long) => write_first(out, output, long),
+        WriteResult::Refused(_) => Ok(()),
     }
 }
 
-// At answer 3, complete, sends the part; gives whether to go on
-fn send_complete(answer: Answer, held: State, grid: &[u8], output: &mut [u8]) -> bool {
+// At answer 3, complete, sends the part
+fn send_complete<W: Write>(
+    out: &mut W,
+    answer: Answer,
+    held: State,
+    grid: &[u8],
+    output: &mut [u8],
+) -> io::Result<()> {
     match answer {
-        Answer::Complete(part) => send(part, held, grid, output),
-        _ => true,
+        Answer::Complete(part) => send(out, part, held, grid, output),
+        _ => Ok(()),
     }
 }
 
 // Gives the bytes to the receiver, and sends each part as soon as it is complete
-fn feed(state: State, grid: &mut [u8], bytes: &[u8], output: &mut [u8]) -> FeedResult {
+fn feed<W: Write>(
+    out: &mut W,
+    state: State,
+    grid: &mut [u8],
+    bytes: &[u8],
+    output: &mut [u8],
+) -> io::Result<FeedResult> {
     let mut s = state;
     let mut at = 0;
     while at < bytes.len() {
         let result = slice_call(s, grid, &bytes[at..]);
         let count = result.count;
         if count == 0 {
-            return FeedResult {
+            return Ok(FeedResult {
                 state: s,
                 goes_on: false,
-            };
+            });
         }
         at += count;
         let next = result.state;
         s = next;
         let answer = result.answer;
-        if !send_complete(answer, s, grid, output) {
-            return FeedResult {
-                state: s,
-                goes_on: false,
-            };
-        }
+        send_complete(out, answer, s, grid, output)?;
     }
-    FeedResult {
+    Ok(FeedResult {
         state: s,
         goes_on: true,
-    }
+    })
 }
 
 // Reads once, as much as there is, and gives it to the receiver
-fn read_and_feed(
+fn read_and_feed<R: Read, W: Write>(
+    input: &mut R,
+    out: &mut W,
     fed: FeedResult,
     grid: &mut [u8],
     buffer: &mut [u8],
     output: &mut [u8],
-) -> FeedResult {
+) -> io::Result<FeedResult> {
     let state = fed.state;
-    let read = libc::read(STDIN_FILENO, buffer);
-    if read < 0 {
-        io::write_all(STDERR_FILENO, b"resend: standard input cannot be read\n");
-    }
-    if read <= 0 {
-        return FeedResult {
+    let n = input.read(buffer)?;
+    if n == 0 {
+        return Ok(FeedResult {
             state,
             goes_on: false,
-        };
+        });
     }
-    let n = io::count(read, buffer);
-    feed(state, grid, &buffer[..n], output)
+    feed(out, state, grid, &buffer[..n], output)
 }
 
-// A proved loop has to end, and nothing says that the input does: the loop counts its turns down,
-// from a number that no run uses up
-fn feed_all(grid: &mut [u8], buffer: &mut [u8], output: &mut [u8]) {
+// A proved loop has to end, and nothing says that the input does: the loop has more turns than any
+// run uses up
+fn feed_all<R: Read, W: Write>(
+    input: &mut R,
+    out: &mut W,
+    grid: &mut [u8],
+    buffer: &mut [u8],
+    output: &mut [u8],
+) -> io::Result<()> {
     let mut fed = FeedResult {
         state: fresh(all_marks()),
         goes_on: true,
     };
-    let mut turns = u64::MAX;
-    while turns > 0 {
-        fed = read_and_feed(fed, grid, buffer, output);
+    for _ in 0..u64::MAX {
+        fed = read_and_feed(input, out, fed, grid, buffer, output)?;
         if !fed.goes_on {
-            return;
+            break;
         }
-        turns -= 1;
     }
+    Ok(())
 }
 
-fn main() {
+fn main(rt: HostRuntime) -> io::Result<()> {
     let mut grid = [0u8; 20000];
-    let mut buffer = io::large_buffer();
+    let mut buffer = [0u8; 65536];
     let mut output = [0u8; 20190];
-    feed_all(&mut grid, &mut buffer, &mut output);
+    feed_all(
+        &mut rt.stdin(),
+        &mut rt.stdout(),
+        &mut grid,
+        &mut buffer,
+        &mut output,
+    )
 }

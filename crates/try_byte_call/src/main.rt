@@ -5,11 +5,12 @@
 
 ghost use Rattle.std.specs.Prelude.{◌≤◌, length};
 
-use libc::{STDIN_FILENO, STDOUT_FILENO};
 use receiver_byte_call::calls::byte_call;
 use receiver_marks::marks::all_marks;
 use receiver_state::answer::number_of;
 use receiver_state::state::{State, fresh};
+use std::io;
+use std::io::{BufWriter, Read, Write};
 
 // The receiver after some bytes, and whether the input goes on
 #[derive(Clone, Copy)]
@@ -50,72 +51,76 @@ fn feed(state: State, grid: &mut [u8], bytes: &[u8], counts: &mut [u64]) -> Stat
 }
 
 // Reads once, as much as there is, and gives it to the receiver
-fn read_and_feed(
+fn read_and_feed<R: Read>(
+    input: &mut R,
     fed: FeedResult,
     grid: &mut [u8],
     buffer: &mut [u8],
     counts: &mut [u64],
-) -> FeedResult
+) -> io::Result<FeedResult>
     requires { 23 ≤ length counts.old }
 {
     let state = fed.state;
-    let read = libc::read(STDIN_FILENO, buffer);
-    if read <= 0 {
-        return FeedResult {
+    let n = input.read(buffer)?;
+    if n == 0 {
+        return Ok(FeedResult {
             state,
             goes_on: false,
-        };
+        });
     }
-    let n = io::count(read, buffer);
-    FeedResult {
+    Ok(FeedResult {
         state: feed(state, grid, &buffer[..n], counts),
         goes_on: true,
-    }
+    })
 }
 
-// A proved loop has to end, and nothing says that the input does: the loop counts its turns down,
-// from a number that no run uses up
-fn feed_all(grid: &mut [u8], buffer: &mut [u8], counts: &mut [u64])
+// A proved loop has to end, and nothing says that the input does: the loop has more turns than any
+// run uses up
+fn feed_all<R: Read>(
+    input: &mut R,
+    grid: &mut [u8],
+    buffer: &mut [u8],
+    counts: &mut [u64],
+) -> io::Result<()>
     requires { 23 ≤ length counts.old }
 {
     let mut fed = FeedResult {
         state: fresh(all_marks()),
         goes_on: true,
     };
-    let mut turns = u64::MAX;
-    while turns > 0 {
-        fed = read_and_feed(fed, grid, buffer, counts);
+    for _ in 0..u64::MAX {
+        fed = read_and_feed(input, fed, grid, buffer, counts)?;
         if !fed.goes_on {
-            return;
+            break;
         }
-        turns -= 1;
     }
+    Ok(())
 }
 
 // Nothing for a number that was no answer
-fn print_line(number: usize, count: u64) {
+fn print_line<W: Write>(out: &mut W, number: usize, count: u64) -> io::Result<()> {
     if count == 0 {
-        return;
+        return Ok(());
     }
-    io::print_decimal(STDOUT_FILENO, number as u64);
-    io::write_all(STDOUT_FILENO, b" ");
-    io::print_decimal(STDOUT_FILENO, count);
-    io::write_all(STDOUT_FILENO, b"\n");
+    writeln!(out, "{number} {count}")
 }
 
 // From 1 on: answer 0 has no line
-fn print_counts(counts: &[u64]) {
+fn print_counts<W: Write>(out: &mut W, counts: &[u64]) -> io::Result<()> {
     let mut number = 1;
     while number < counts.len() {
-        print_line(number, counts[number]);
+        print_line(out, number, counts[number])?;
         number += 1;
     }
+    Ok(())
 }
 
-fn main() {
+fn main(rt: HostRuntime) -> io::Result<()> {
     let mut grid = [0u8; 20000];
-    let mut buffer = io::large_buffer();
+    let mut buffer = [0u8; 65536];
     let mut counts = [0u64; 23];
-    feed_all(&mut grid, &mut buffer, &mut counts);
-    print_counts(&counts);
+    feed_all(&mut rt.stdin(), &mut grid, &mut buffer, &mut counts)?;
+    let mut out = BufWriter::new(rt.alloc(), rt.stdout())?;
+    print_counts(&mut out, &counts)?;
+    out.flush()
 }

@@ -1,39 +1,44 @@
-// Lines of numbers on standard output.
+// Lines of numbers.
 use crate::figures::Figures;
-use libc::STDOUT_FILENO;
+use std::io;
+use std::io::Write;
 
 // A number, which begins its line
-fn first(n: u64) {
-    io::print_decimal(STDOUT_FILENO, n);
+fn first<W: Write>(out: &mut W, n: u64) -> io::Result<()> {
+    write!(out, "{n}")
 }
 
 // A number, with a space before it
-fn number(n: u64) {
-    io::write_all(STDOUT_FILENO, b" ");
-    io::print_decimal(STDOUT_FILENO, n);
+fn number<W: Write>(out: &mut W, n: u64) -> io::Result<()> {
+    write!(out, " {n}")
 }
 
 // To the line's end: bytes left, and the sum
-fn left_and_sum(figures: Figures) {
-    number(figures.left as u64);
-    number(figures.sum as u64);
-    io::write_all(STDOUT_FILENO, b"\n");
+fn left_and_sum<W: Write>(out: &mut W, figures: Figures) -> io::Result<()> {
+    number(out, figures.left as u64)?;
+    number(out, figures.sum as u64)?;
+    out.write_all(b"\n")
 }
 
 // The line of a byte, by its answer, the bytes left before it and the figures after it; none for
 // answer 0
-pub fn answer_line(answer: u8, before: u16, after: Figures) {
+pub fn answer_line<W: Write>(
+    out: &mut W,
+    answer: u8,
+    before: u16,
+    after: Figures,
+) -> io::Result<()> {
     if answer == 0 {
-        return;
+        return Ok(());
     }
-    first(after.total);
-    number(answer as u64);
-    number(before as u64);
-    left_and_sum(after);
+    first(out, after.total)?;
+    number(out, answer as u64)?;
+    number(out, before as u64)?;
+    left_and_sum(out, after)
 }
 
 // When the input has ended
-pub fn last_line(figures: Figures) {
-    first(figures.total);
-    left_and_sum(figures);
+pub fn last_line<W: Write>(out: &mut W, figures: Figures) -> io::Result<()> {
+    first(out, figures.total)?;
+    left_and_sum(out, figures)
 }

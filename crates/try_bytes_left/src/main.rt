@@ -15,11 +15,12 @@ mod lines;
 
 use crate::figures::{Figures, after_byte, before_any};
 use crate::lines::{answer_line, last_line};
-use libc::STDIN_FILENO;
 use receiver_byte_call::calls::byte_call;
 use receiver_marks::marks::all_marks;
 use receiver_state::answer::number_of;
 use receiver_state::state::{State, fresh};
+use std::io;
+use std::io::{BufWriter, Read, Write};
 
 // The receiver and the figures after some bytes
 #[derive(Clone, Copy)]
@@ -38,43 +39,51 @@ fn at_start() -> Fed {
 
 // Gives one byte to the receiver, and prints its line. No call is refused: the grid has 20,000
 // bytes, and the state is fresh or a call's.
-fn feed_byte(fed: Fed, grid: &mut [u8], b: u8) -> Fed {
+fn feed_byte<W: Write>(out: &mut W, fed: Fed, grid: &mut [u8], b: u8) -> io::Result<Fed> {
     let before = fed.figures;
     let held = fed.state;
     let result = byte_call(held, grid, b);
     let state = result.state;
     let answer = result.answer;
     let figures = after_byte(before, state);
-    answer_line(number_of(answer), before.left, figures);
-    Fed { state, figures }
+    answer_line(out, number_of(answer), before.left, figures)?;
+    Ok(Fed { state, figures })
 }
 
-fn feed(fed: Fed, grid: &mut [u8], bytes: &[u8]) -> Fed {
+fn feed<W: Write>(out: &mut W, fed: Fed, grid: &mut [u8], bytes: &[u8]) -> io::Result<Fed> {
     let mut now = fed;
     let mut i = 0;
     while i < bytes.len() {
-        now = feed_byte(now, grid, bytes[i]);
+        now = feed_byte(out, now, grid, bytes[i])?;
         i += 1;
     }
-    now
+    Ok(now)
 }
 
 // Reads as much as there is, gives it to the receiver, and so on to the input's end. A proved loop
-// has to end, and nothing says that the input does: the loop counts its turns down, from a number
-// that no run uses up
-fn main() {
-    let mut grid = [0u8; 20000];
-    let mut buffer = io::large_buffer();
+// has to end, and nothing says that the input does: the loop has more turns than any run uses up
+fn feed_all<R: Read, W: Write>(
+    input: &mut R,
+    out: &mut W,
+    grid: &mut [u8],
+    buffer: &mut [u8],
+) -> io::Result<Fed> {
     let mut fed = at_start();
-    let mut turns = u64::MAX;
-    while turns > 0 {
-        let read = libc::read(STDIN_FILENO, &mut buffer);
-        if read <= 0 {
+    for _ in 0..u64::MAX {
+        let n = input.read(buffer)?;
+        if n == 0 {
             break;
         }
-        let n = io::count(read, &buffer);
-        fed = feed(fed, &mut grid, &buffer[..n]);
-        turns -= 1;
+        fed = feed(out, fed, grid, &buffer[..n])?;
     }
-    last_line(fed.figures);
+    Ok(fed)
+}
+
+fn main(rt: HostRuntime) -> io::Result<()> {
+    let mut grid = [0u8; 20000];
+    let mut buffer = [0u8; 65536];
+    let mut out = BufWriter::new(rt.alloc(), rt.stdout())?;
+    let fed = feed_all(&mut rt.stdin(), &mut out, &mut grid, &mut buffer)?;
+    last_line(&mut out, fed.figures)?;
+    out.flush()
 }

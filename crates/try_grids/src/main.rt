@@ -5,10 +5,12 @@
 // are no grid.
 #![tactic(auto)]
 
-use libc::{STDIN_FILENO, STDOUT_FILENO};
+use program_streams::read_full;
 use service_levels::meshes::meshes_from;
 use service_levels::result::MeshResult;
 use service_overlay::grids::{OverlayResult, overlay};
+use std::io;
+use std::io::{BufWriter, Read, Write};
 
 fn number_of(found: MeshResult) -> u64 {
     match found {
@@ -17,59 +19,72 @@ fn number_of(found: MeshResult) -> u64 {
     }
 }
 
-fn count(grid: &[u8], level: u8) {
-    io::print_decimal(STDOUT_FILENO, number_of(meshes_from(grid, level)));
+fn count<W: Write>(out: &mut W, grid: &[u8], level: u8) -> io::Result<()> {
+    let n = number_of(meshes_from(grid, level));
+    write!(out, "{n}")
 }
 
 // The overlay of a grid and those before it; says whether it stands in `after`
-fn lay(grid: &[u8], before: &[u8], after: &mut [u8]) -> bool {
+fn lay<W: Write>(out: &mut W, grid: &[u8], before: &[u8], after: &mut [u8]) -> io::Result<bool> {
     let laid = overlay(grid, before, after);
     match laid {
         OverlayResult::Done => {
-            count(after, 1);
-            true
+            count(out, after, 1)?;
+            Ok(true)
         }
         OverlayResult::Refused(row) => {
-            io::print_decimal(STDOUT_FILENO, row as u64);
-            false
+            write!(out, "{row}")?;
+            Ok(false)
         }
     }
 }
 
 // One grid's line; says whether the overlay now stands in `after`
-fn total(grid: &[u8], before: &[u8], after: &mut [u8]) -> bool {
-    count(grid, 1);
-    io::write_all(STDOUT_FILENO, b" ");
-    count(grid, 5);
-    io::write_all(STDOUT_FILENO, b" ");
-    count(grid, 10);
-    io::write_all(STDOUT_FILENO, b" ");
-    let laid = lay(grid, before, after);
-    io::write_all(STDOUT_FILENO, b"\n");
-    laid
+fn total<W: Write>(out: &mut W, grid: &[u8], before: &[u8], after: &mut [u8]) -> io::Result<bool> {
+    count(out, grid, 1)?;
+    out.write_all(b" ")?;
+    count(out, grid, 5)?;
+    out.write_all(b" ")?;
+    count(out, grid, 10)?;
+    out.write_all(b" ")?;
+    let laid = lay(out, grid, before, after)?;
+    out.write_all(b"\n")?;
+    Ok(laid)
 }
 
 // Of two grids one holds the overlay, and the other takes the next; says whether `two` now holds it
-fn turn(grid: &[u8], one: &mut [u8], two: &mut [u8], in_two: bool) -> bool {
+fn turn<W: Write>(
+    out: &mut W,
+    grid: &[u8],
+    one: &mut [u8],
+    two: &mut [u8],
+    in_two: bool,
+) -> io::Result<bool> {
     if in_two {
-        return !total(grid, two, one);
+        let in_one = total(out, grid, two, one)?;
+        return Ok(!in_one);
     }
-    total(grid, one, two)
+    total(out, grid, one, two)
 }
 
-// A proved loop has to end, and nothing says that the input does: the loop counts its turns down,
-// from a number that no run uses up
-fn main() {
+// A proved loop has to end, and nothing says that the input does: the loop has more turns than any
+// run uses up
+fn grids<R: Read, W: Write>(input: &mut R, out: &mut W) -> io::Result<()> {
     let mut grid = [0u8; 20000];
     let mut one = [0u8; 20000];
     let mut two = [0u8; 20000];
     let mut in_two = false;
-    let mut turns = u64::MAX;
-    while turns > 0 {
-        if io::read_full(STDIN_FILENO, &mut grid) != 20000 {
-            return;
+    for _ in 0..u64::MAX {
+        if read_full(input, &mut grid)? != 20000 {
+            break;
         }
-        in_two = turn(&grid, &mut one, &mut two, in_two);
-        turns -= 1;
+        in_two = turn(out, &grid, &mut one, &mut two, in_two)?;
     }
+    Ok(())
+}
+
+fn main(rt: HostRuntime) -> io::Result<()> {
+    let mut out = BufWriter::new(rt.alloc(), rt.stdout())?;
+    grids(&mut rt.stdin(), &mut out)?;
+    out.flush()
 }

@@ -4,7 +4,8 @@ ghost use Rattle.std.specs.Prelude.{◌≤◌, ◌<◌, length};
 use crate::arguments::byte_at;
 use crate::print::number;
 use crate::{blocks, bytes, dates, pairs, times, writer_headers};
-use libc::STDOUT_FILENO;
+use std::io;
+use std::io::Write;
 
 // How many bytes of the arguments are asked about at a time. No request has 65,536: all at once
 fn group_length(asked: u8) -> usize
@@ -31,28 +32,29 @@ fn result(asked: u8, args: &[u8]) -> u64 {
 }
 
 // The results for all groups; there is always a first, if need be of no bytes
-fn results(asked: u8, args: &[u8])
+fn results<W: Write>(out: &mut W, asked: u8, args: &[u8]) -> io::Result<()>
     requires { length args.now ≤ 65536 }
 {
     let k = group_length(asked);
-    number(result(asked, args));
+    number(out, result(asked, args))?;
     let mut at = k;
     while at < args.len() {
-        number(result(asked, &args[at..]));
+        number(out, result(asked, &args[at..]))?;
         at += k;
     }
+    Ok(())
 }
 
-pub fn line(asked: u8, args: &[u8])
+pub fn line<W: Write>(out: &mut W, asked: u8, args: &[u8]) -> io::Result<()>
     requires { length args.now ≤ 65536 }
 {
-    io::print_decimal(STDOUT_FILENO, asked as u64);
+    write!(out, "{asked}")?;
     match asked {
-        50 => times::check(args),
-        56 => writer_headers::writer_header_of_header(args),
-        58 => times::digits(args),
-        64 => blocks::put_into(args),
-        _ => results(asked, args),
-    }
-    io::write_all(STDOUT_FILENO, b"\n");
+        50 => times::check(out, args),
+        56 => writer_headers::writer_header_of_header(out, args),
+        58 => times::digits(out, args),
+        64 => blocks::put_into(out, args),
+        _ => results(out, asked, args),
+    }?;
+    out.write_all(b"\n")
 }

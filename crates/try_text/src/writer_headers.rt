@@ -1,6 +1,8 @@
 // Minutes, modes and radars, and the headers of which they are part.
 use crate::arguments::{byte_at, eight_at, minute_at, two_at};
 use crate::print::{list, number, signed};
+use std::io;
+use std::io::Write;
 use text::header::{Header, WriterHeader};
 use text_calendar::minutes::is_minute;
 use text_headers::writer_input::{is_writer_header, is_writer_input, writer_header_of};
@@ -29,7 +31,7 @@ pub fn result(asked: u8, args: &[u8]) -> u64 {
 }
 
 // What a writer takes of a header: the header, mode and NO ECHO are the arguments
-pub fn writer_header_of_header(args: &[u8]) {
+pub fn writer_header_of_header<W: Write>(out: &mut W, args: &[u8]) -> io::Result<()> {
     let found = writer_header_of(Header {
         minute: minute_at(args, 0),
         radars: eight_at(args, 8),
@@ -39,8 +41,8 @@ pub fn writer_header_of_header(args: &[u8]) {
         noecho: byte_at(args, 20) == 1,
     });
     let radars = found.radars;
-    signed(found.minute);
-    list(&radars);
-    number(found.clock as u64);
-    number(found.picture as u64);
+    signed(out, found.minute)?;
+    list(out, &radars)?;
+    number(out, found.clock as u64)?;
+    number(out, found.picture as u64)
 }

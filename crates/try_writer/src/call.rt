@@ -5,6 +5,8 @@ use crate::arguments::{byte_at, eight_at, minute_at, two_at};
 use crate::print::{end_line, number, word};
 use crate::read_back::read_back;
 use crate::sums::adler;
+use std::io;
+use std::io::Write;
 use text::header::WriterHeader;
 use writer::part::{WriteResult, write_part};
 
@@ -17,22 +19,28 @@ fn header(head: &[u8]) -> WriterHeader {
     }
 }
 
-fn line(what: &[u8], n: u64, sum: u64) {
-    word(what);
-    number(n);
-    number(sum);
-    end_line();
+fn line<W: Write>(out: &mut W, what: &[u8], n: u64, sum: u64) -> io::Result<()> {
+    word(out, what)?;
+    number(out, n)?;
+    number(out, sum)?;
+    end_line(out)
 }
 
-fn written(long: usize, output: &[u8]) {
-    line(b"wrote", long as u64, adler(output));
+fn written<W: Write>(out: &mut W, long: usize, output: &[u8]) -> io::Result<()> {
+    line(out, b"wrote", long as u64, adler(output))?;
     if long <= output.len() {
-        read_back(&output[..long]);
+        read_back(out, &output[..long])?;
     }
+    Ok(())
 }
 
 // The call, and the lines for what it returned and left
-fn attempt(head: &[u8], payload: &[u8], output: &mut [u8]) {
+fn attempt<W: Write>(
+    out: &mut W,
+    head: &[u8],
+    payload: &[u8],
+    output: &mut [u8],
+) -> io::Result<()> {
     let answer = write_part(
         byte_at(head, 0),
         header(head),
@@ -41,13 +49,13 @@ fn attempt(head: &[u8], payload: &[u8], output: &mut [u8]) {
         output,
     );
     match answer {
-        WriteResult::Bytes(long) => written(long, output),
-        WriteResult::Refused(row) => line(b"refused", row as u64, adler(output)),
+        WriteResult::Bytes(long) => written(out, long, output),
+        WriteResult::Refused(row) => line(out, b"refused", row as u64, adler(output)),
     }
 }
 
-pub fn call(head: &[u8], payload: &[u8]) {
+pub fn call<W: Write>(out: &mut W, head: &[u8], payload: &[u8]) -> io::Result<()> {
     let mut output = [0xAAu8; 65536];
     let long = two_at(head, 28) as usize;
-    attempt(head, payload, &mut output[..long]);
+    attempt(out, head, payload, &mut output[..long])
 }

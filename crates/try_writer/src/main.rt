@@ -25,28 +25,42 @@ ghost use Rattle.std.specs.Prelude.{◌≡◌, length};
 
 use crate::arguments::two_at;
 use crate::call::call;
-use libc::STDIN_FILENO;
+use program_streams::read_full;
+use std::io;
+use std::io::{BufWriter, Read, Write};
 
 // Reads the payload that the head announces, as much as there is, and makes the call
-fn request(head: &[u8], space: &mut [u8])
+fn request<R: Read, W: Write>(
+    input: &mut R,
+    out: &mut W,
+    head: &[u8],
+    space: &mut [u8],
+) -> io::Result<()>
     requires { length space.old ≡ 65536 }
 {
     let long = two_at(head, 30) as usize;
-    let read = io::read_full(STDIN_FILENO, &mut space[..long]);
-    call(head, &space[..read]);
+    let read = read_full(input, &mut space[..long])?;
+    call(out, head, &space[..read])
 }
 
-// A proved loop has to end, and nothing says that the input does: the loop counts its turns down,
-// from a number that no run uses up
-fn main() {
+// A proved loop has to end, and nothing says that the input does: the loop has more turns than any
+// run uses up
+fn requests<R: Read, W: Write>(input: &mut R, out: &mut W, space: &mut [u8]) -> io::Result<()>
+    requires { length space.old ≡ 65536 }
+{
     let mut head = [0u8; 32];
-    let mut space = io::large_buffer();
-    let mut turns = u64::MAX;
-    while turns > 0 {
-        if io::read_full(STDIN_FILENO, &mut head) != 32 {
-            return;
+    for _ in 0..u64::MAX {
+        if read_full(input, &mut head)? != 32 {
+            break;
         }
-        request(&head, &mut space);
-        turns -= 1;
+        request(input, out, &head, space)?;
     }
+    Ok(())
+}
+
+fn main(rt: HostRuntime) -> io::Result<()> {
+    let mut space = [0u8; 65536];
+    let mut out = BufWriter::new(rt.alloc(), rt.stdout())?;
+    requests(&mut rt.stdin(), &mut out, &mut space)?;
+    out.flush()
 }

@@ -1,41 +1,41 @@
-// Words and numbers on standard output.
-use libc::STDOUT_FILENO;
+// Words and numbers.
+use std::io;
+use std::io::Write;
 use text_signed_numbers::numbers::distance;
 
 // The word that a line begins with
-pub fn word(w: &[u8]) {
-    io::write_all(STDOUT_FILENO, w);
+pub fn word<W: Write>(out: &mut W, w: &[u8]) -> io::Result<()> {
+    out.write_all(w)
 }
 
-pub fn end_line() {
-    io::write_all(STDOUT_FILENO, b"\n");
+pub fn end_line<W: Write>(out: &mut W) -> io::Result<()> {
+    out.write_all(b"\n")
 }
 
 // A number, with a space before it
-pub fn number(n: u64) {
-    io::write_all(STDOUT_FILENO, b" ");
-    io::print_decimal(STDOUT_FILENO, n);
+pub fn number<W: Write>(out: &mut W, n: u64) -> io::Result<()> {
+    write!(out, " {n}")
 }
 
-pub fn byte(n: u8) {
-    number(n as u64);
+pub fn byte<W: Write>(out: &mut W, n: u8) -> io::Result<()> {
+    number(out, n as u64)
 }
 
 // A minute, which may be below 0, with a space before it (Request 111)
-pub fn signed(n: i64) {
+pub fn signed<W: Write>(out: &mut W, n: i64) -> io::Result<()> {
     if n < 0 {
-        io::write_all(STDOUT_FILENO, b" -");
-        io::print_decimal(STDOUT_FILENO, distance(n));
-        return;
+        let below = distance(n);
+        return write!(out, " -{below}");
     }
-    number(distance(n));
+    number(out, distance(n))
 }
 
 // The numbers of a list
-pub fn list(l: &[u8]) {
+pub fn list<W: Write>(out: &mut W, l: &[u8]) -> io::Result<()> {
     let mut i = 0;
     while i < l.len() {
-        byte(l[i]);
+        byte(out, l[i])?;
         i += 1;
     }
+    Ok(())
 }

@@ -5,20 +5,23 @@ use receiver_marks::marks::all_marks;
 use receiver_slice_call::calls::slice_call;
 use receiver_state::answer::number_of;
 use receiver_state::state::{State, fresh};
+use std::io;
+use std::io::Write;
 
-fn took(count: usize, answer: u8, s: State, grid: &[u8]) {
-    word(b"took");
-    number(count as u64);
-    byte(answer);
-    end_line();
+fn took<W: Write>(out: &mut W, count: usize, answer: u8, s: State, grid: &[u8]) -> io::Result<()> {
+    word(out, b"took")?;
+    number(out, count as u64)?;
+    byte(out, answer)?;
+    end_line(out)?;
     if answer == 3 {
-        word(b"held");
-        numbers(s, grid);
+        word(out, b"held")?;
+        numbers(out, s, grid)?;
     }
+    Ok(())
 }
 
 // Gives all bytes, by as many calls as that takes
-pub fn read_back(bytes: &[u8]) {
+pub fn read_back<W: Write>(out: &mut W, bytes: &[u8]) -> io::Result<()> {
     let mut grid = [0u8; 20000];
     let mut s = fresh(all_marks());
     let mut at = 0;
@@ -26,12 +29,13 @@ pub fn read_back(bytes: &[u8]) {
         let result = slice_call(s, &mut grid, &bytes[at..]);
         let count = result.count;
         if count == 0 {
-            return;
+            return Ok(());
         }
         at += count;
         let next = result.state;
         s = next;
         let answer = result.answer;
-        took(count, number_of(answer), s, &grid);
+        took(out, count, number_of(answer), s, &grid)?;
     }
+    Ok(())
 }

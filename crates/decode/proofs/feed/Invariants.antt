@@ -8,7 +8,7 @@ use Rattle.receiver_slice_call.proofs.Laws.{count_behind}
 use Rattle.decode.proofs.feed.Given as goal
 
 abbrev pub invariant-loop-at : goal.invariant-loop-at
-invariant-loop-at l = (l.at ≤ length l.bytes) × (length l.grid ≡ length l.initial.grid) × (length l.counts ≡ length l.initial.counts)
+invariant-loop-at g l = (l.at ≤ length l.bytes) × (length l.grid ≡ length l.initial.grid) × (length l.counts ≡ length l.initial.counts)
 
 abbrev pub decreases-loop-at : goal.decreases-loop-at
-decreases-loop-at l = length l.bytes - l.at
+decreases-loop-at g l = length l.bytes - l.at

@@ -1,15 +1,9 @@
--- Each turn takes a byte at least and stays within the bytes; grid and output keep their lengths, and no more waits than the output holds. Assumes nothing.
-use mathlib.Core.Path.{◌≡◌}
-use Prim.Native.Nat.{◌≤◌, ◌-◌}
-use native.Mathlib.Omega.{arith}
-use lib.ListN.{length}
-use borrow.Author.Rules.{rules}
-use Rattle.receiver_slice_call.proofs.Laws.{count_behind}
+-- Each turn takes a byte at least and stays within the bytes; the grid keeps its length. Assumes nothing.
+use Rattle.std.proofs.Common.{length, ◌≡◌, ◌≤◌, ◌-◌}
 use Rattle.listen.proofs.feed.Given as goal
 
 abbrev pub invariant-loop-at : goal.invariant-loop-at
-invariant-loop-at l =
-    (l.at ≤ length l.bytes) × (length l.grid ≡ length l.initial.grid) × (length l.out ≡ length l.initial.out) × (l.waiting.used ≤ length l.initial.out)
+invariant-loop-at g l = (l.at ≤ length l.bytes) × (length l.grid ≡ length l.initial.grid)
 
 abbrev pub decreases-loop-at : goal.decreases-loop-at
-decreases-loop-at l = length l.bytes - l.at
+decreases-loop-at g l = length l.bytes - l.at

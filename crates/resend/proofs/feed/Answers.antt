@@ -1,20 +1,16 @@
--- Each turn takes a byte at least and stays within the bytes; grid and output keep their lengths. Assumes nothing.
-use mathlib.Core.Path.{◌≡◌}
-use Prim.Native.Nat.{◌≤◌, ◌-◌}
-use native.Mathlib.Omega.{arith}
-use lib.ListN.{length}
-use borrow.Author.Rules.{rules}
+-- A slice call takes no more bytes than it is given. Assumes nothing.
+use Rattle.std.proofs.Common.{rules, arith}
 use Rattle.terminal.proofs.Laws.{count_behind}
 use Rattle.resend.proofs.feed.Goals as goal
 
 pub overflow_add-at : goal.overflow_add-at
-overflow_add-at c =
+overflow_add-at g c =
     omega (arith, c.loop-at.invariant.0, c.loop-at-test.true, c.well_formed, count_behind c.slice_call-result.result _ _ _ c.args.bytes.now c.loop-at.at c.slice_call-result.ensures.grid_after)
 
 pub loop-at-smaller : goal.loop-at-smaller
-loop-at-smaller c =
-    omega (arith, c.loop-at.invariant.0, c.loop-at-test.true, c.if-count-eq0.false, count_behind c.slice_call-result.result _ _ _ c.args.bytes.now c.loop-at.at c.slice_call-result.ensures.grid_after)
+loop-at-smaller g c =
+    omega (arith, c.loop-at.invariant.0, c.if-count-eq0.false, c.loop-at-test.true, count_behind c.slice_call-result.result _ _ _ c.args.bytes.now c.loop-at.at c.slice_call-result.ensures.grid_after)
 
 pub loop-at-preserved : goal.loop-at-preserved
-loop-at-preserved c =
+loop-at-preserved g c =
     search (rules, count_behind c.slice_call-result.result _ _ _ c.args.bytes.now c.loop-at.at c.slice_call-result.ensures.grid_after)

@@ -5,4 +5,4 @@ use borrow.Author.Rules.{rules}
 use Rattle.resend.proofs.send.Goals as goal
 
 pub slice_bounds-write_part-end : goal.slice_bounds-write_part-end
-slice_bounds-write_part-end c = sym (length-take-le _ _ (search rules))
+slice_bounds-write_part-end g c = sym (length-take-le _ _ (search rules))

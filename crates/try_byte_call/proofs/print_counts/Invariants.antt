@@ -5,7 +5,7 @@ use borrow.Author.Rules.{rules}
 use Rattle.try_byte_call.proofs.print_counts.Given as goal
 
 abbrev pub invariant-loop-number : goal.invariant-loop-number
-invariant-loop-number l = Unit {0}
+invariant-loop-number g l = Unit {0}
 
 abbrev pub decreases-loop-number : goal.decreases-loop-number
-decreases-loop-number l = length l.counts - l.number
+decreases-loop-number g l = length l.counts - l.number

@@ -6,7 +6,7 @@ use borrow.Author.Rules.{rules}
 use Rattle.try_bytes_left.proofs.feed.Given as goal
 
 abbrev pub invariant-loop-i : goal.invariant-loop-i
-invariant-loop-i l = length l.grid ≡ length l.initial.grid
+invariant-loop-i g l = length l.grid ≡ length l.initial.grid
 
 abbrev pub decreases-loop-i : goal.decreases-loop-i
-decreases-loop-i l = length l.bytes - l.i
+decreases-loop-i g l = length l.bytes - l.i

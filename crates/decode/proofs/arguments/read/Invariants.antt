@@ -6,7 +6,7 @@ use borrow.Author.Rules.{rules}
 use Rattle.decode.proofs.arguments.read.Given as goal
 
 abbrev pub invariant-loop-number : goal.invariant-loop-number
-invariant-loop-number l = length l.buffer ≡ length l.initial.buffer
+invariant-loop-number g l = length l.buffer ≡ length l.initial.buffer
 
 abbrev pub decreases-loop-number : goal.decreases-loop-number
-decreases-loop-number l = l.count - l.number
+decreases-loop-number g l = l.count - l.number

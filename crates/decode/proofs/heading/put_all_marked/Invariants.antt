@@ -4,7 +4,7 @@ use borrow.Author.Rules.{rules}
 use Rattle.decode.proofs.heading.put_all_marked.Given as goal
 
 abbrev pub invariant-loop-code : goal.invariant-loop-code
-invariant-loop-code l = Unit {0}
+invariant-loop-code g l = Unit {0}
 
 abbrev pub decreases-loop-code : goal.decreases-loop-code
-decreases-loop-code l = 242 - l.code
+decreases-loop-code g l = 242 - l.code

@@ -4,7 +4,7 @@ use borrow.Author.Rules.{rules}
 use Rattle.decode.proofs.levels.intensity.Given as goal
 
 abbrev pub invariant-loop-level : goal.invariant-loop-level
-invariant-loop-level l = Unit {0}
+invariant-loop-level g l = Unit {0}
 
 abbrev pub decreases-loop-level : goal.decreases-loop-level
-decreases-loop-level l = 15 - l.level
+decreases-loop-level g l = 15 - l.level

@@ -4,7 +4,7 @@ use borrow.Author.Rules.{rules}
 use Rattle.decode.proofs.quality.values.Given as goal
 
 abbrev pub invariant-loop-value : goal.invariant-loop-value
-invariant-loop-value l = Unit {0}
+invariant-loop-value g l = Unit {0}
 
 abbrev pub decreases-loop-value : goal.decreases-loop-value
-decreases-loop-value l = 129 - l.value
+decreases-loop-value g l = 129 - l.value

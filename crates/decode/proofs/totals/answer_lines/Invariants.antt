@@ -4,7 +4,7 @@ use borrow.Author.Rules.{rules}
 use Rattle.decode.proofs.totals.answer_lines.Given as goal
 
 abbrev pub invariant-loop-number : goal.invariant-loop-number
-invariant-loop-number l = Unit {0}
+invariant-loop-number g l = Unit {0}
 
 abbrev pub decreases-loop-number : goal.decreases-loop-number
-decreases-loop-number l = 23 - l.number
+decreases-loop-number g l = 23 - l.number

@@ -5,7 +5,7 @@ use borrow.Author.Rules.{rules}
 use Rattle.try_text.proofs.answers.results.Given as goal
 
 abbrev pub invariant-loop-at : goal.invariant-loop-at
-invariant-loop-at l = (0 < l.k) × (l.k ≤ 65536) × (length l.args ≤ 65536)
+invariant-loop-at g l = (0 < l.k) × (l.k ≤ 65536) × (length l.args ≤ 65536)
 
 abbrev pub decreases-loop-at : goal.decreases-loop-at
-decreases-loop-at l = length l.args - l.at
+decreases-loop-at g l = length l.args - l.at

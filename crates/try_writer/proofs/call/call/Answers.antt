@@ -5,4 +5,4 @@ use borrow.Author.Rules.{rules}
 use Rattle.try_writer.proofs.call.call.Goals as goal
 
 pub slice_bounds-attempt-end : goal.slice_bounds-attempt-end
-slice_bounds-attempt-end c = sym (length-take-le _ _ (search rules))
+slice_bounds-attempt-end g c = sym (length-take-le _ _ (search rules))
