@@ -1,10 +1,8 @@
 -- The bytes so far are in the running check byte. Assumes nothing.
-use mathlib.Core.Path.{◌≡◌, sym, ap, ◌∙◌}
-use Prim.Native.Nat.{◌-◌, ◌≤◌}
+use mathlib.Core.Path.{sym, ap, ◌∙◌}
 use native.Mathlib.Omega.{arith}
-use lib.ListN.{length, get_or, take}
+use lib.ListN.{get_or}
 use lib.Seq.{take_all}
-use borrow.Author.Rules.{rules}
 use Rattle.text.specs.Text.{xor_all}
 use Rattle.receiver_spec.specs.Receiver.{◌⊕◌}
 use Rattle.receiver_spec.proofs.Laws.{xor_nil}

@@ -1,14 +1,9 @@
 -- The bytes so far are in the running check byte. Assumes nothing.
-use mathlib.Core.Path.{◌≡◌, sym, ap, ◌∙◌}
+use mathlib.Core.Path.{◌≡◌}
 use Prim.Native.Nat.{◌-◌, ◌≤◌}
-use native.Mathlib.Omega.{arith}
-use lib.ListN.{length, get_or, take}
-use lib.Seq.{take_all}
-use borrow.Author.Rules.{rules}
+use lib.ListN.{length, take}
 use Rattle.text.specs.Text.{xor_all}
 use Rattle.receiver_spec.specs.Receiver.{◌⊕◌}
-use Rattle.receiver_spec.proofs.Laws.{xor_nil}
-use Rattle.receiver_bytes_seen.proofs.ManyBytes.{check_on}
 use Rattle.receiver_bytes_seen.proofs.behind.check_behind.Given as goal
 
 abbrev pub invariant-loop-i : goal.invariant-loop-i

@@ -1,12 +1,8 @@
 -- The bytes that are left come to what all come to. Assumes nothing.
-use mathlib.Core.Path.{◌≡◌, sym, ap, ◌∙◌}
-use Prim.Native.Nat.{◌-◌, ◌+◌}
-use native.Mathlib.Omega.{arith}
-use lib.ListN.{length, drop, drop_of_length-le}
-use borrow.Author.Rules.{rules}
+use mathlib.Core.Path.{◌≡◌}
+use Prim.Native.Nat.{◌-◌}
+use lib.ListN.{length, drop}
 use Rattle.receiver_bytes_seen.specs.Behind.{seen_after}
-use Rattle.receiver_bytes_seen.proofs.ManyBytes.{last_five}
-use Rattle.general_laws.proofs.Lists.{from_on}
 use Rattle.receiver_bytes_seen.proofs.behind.seen_behind.Given as goal
 
 abbrev pub invariant-loop-i : goal.invariant-loop-i

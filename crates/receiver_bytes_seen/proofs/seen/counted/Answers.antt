@@ -1,5 +1,4 @@
 -- Each way out is a case of the definition. Assumes nothing.
-use borrow.Author.Rules.{rules}
 use borrow.Author.Tests.{lt-ltb, le-ltb}
 use Rattle.receiver_bytes_seen.specs.AsNumber.{push_count}
 use Rattle.receiver_bytes_seen.proofs.seen.counted.Goals as goal

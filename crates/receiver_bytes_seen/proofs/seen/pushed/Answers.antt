@@ -1,6 +1,5 @@
 -- The sum is the definition. Assumes nothing.
 use mathlib.Core.Path.{refl}
-use borrow.Author.Rules.{rules}
 use Rattle.receiver_bytes_seen.specs.AsNumber.{push_seen}
 use Rattle.receiver_bytes_seen.proofs.seen.pushed.Goals as goal
 

@@ -1,5 +1,4 @@
 -- What `begins` makes, as the definition has it. Assumes nothing.
-use borrow.Author.Rules.{rules}
 use Rattle.receiver_decisions.specs.Decisions.{drops}
 use Rattle.receiver_decisions.proofs.decision.drops.Goals as goal
 

@@ -1,6 +1,5 @@
 -- The bit at the code's place. Assumes nothing.
 use native.Mathlib.Omega.{arith}
-use borrow.Author.Rules.{rules}
 use Rattle.receiver_marks.proofs.PlaceLaws.{place_small, marked_here}
 use Rattle.receiver_marks.proofs.marks.is_marked.Goals as goal
 

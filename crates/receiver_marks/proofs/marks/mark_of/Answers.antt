@@ -6,7 +6,6 @@ use lib.Dec.{lit≤}
 use lib.Pow.{shl_exact}
 use Prim.Native.Nat.{◌^◌, ◌<◌}
 use native.Mathlib.Omega.{arith}
-use borrow.Author.Rules.{rules}
 use Rattle.text.specs.Pictures.{picture_codes}
 use Rattle.receiver_spec.specs.Contents.{index_in}
 use Rattle.receiver_marks.specs.Places.{mark_of}

@@ -1,7 +1,5 @@
 -- Assumes nothing.
 use mathlib.Core.Path.{sym, ◌∙◌}
-use borrow.Author.Rules.{rules}
-use borrow.Author.Tests.{not-true, not-false}
 use Rattle.receiver_spec.specs.Marks.{marks_from}
 use Rattle.receiver_marks.proofs.marks.marks_from.Goals as goal
 

@@ -1,6 +1,6 @@
 -- Upwards from bit 0: so far, as many as the lowest i bits have. Assumes nothing.
 use mathlib.Core.Path.{◌≡◌, refl, sym, ap, ◌∙◌}
-use Prim.Native.Nat.{ℕ, suc, ◌+◌, ◌-◌, ◌/◌, ◌%◌, ◌^◌, ◌≤◌}
+use Prim.Native.Nat.{ℕ, suc, ◌+◌, ◌/◌, ◌%◌, ◌^◌}
 use native.Mathlib.Omega.{arith}
 use Rattle.receiver_spec.specs.Marks.{bits_below}
 use Rattle.receiver_spec.proofs.Laws.{marks_claim}

@@ -1,9 +1,7 @@
 -- Upwards from bit 0: so far, as many as the lowest i bits have. Assumes nothing.
-use mathlib.Core.Path.{◌≡◌, refl, sym, ap, ◌∙◌}
-use Prim.Native.Nat.{ℕ, suc, ◌+◌, ◌-◌, ◌/◌, ◌%◌, ◌^◌, ◌≤◌}
-use native.Mathlib.Omega.{arith}
+use mathlib.Core.Path.{◌≡◌}
+use Prim.Native.Nat.{◌-◌, ◌≤◌}
 use Rattle.receiver_spec.specs.Marks.{bits_below}
-use Rattle.receiver_spec.proofs.Laws.{marks_claim}
 use Rattle.receiver_marks.proofs.marks.marks_set.Given as goal
 
 abbrev pub invariant-loop-i : goal.invariant-loop-i

@@ -1,5 +1,4 @@
 -- Each way out is a case of the definition. Assumes nothing.
-use borrow.Author.Rules.{rules}
 use borrow.Author.Tests.{lt-ltb, le-ltb}
 use Rattle.receiver_marks.specs.Places.{place_of}
 use Rattle.receiver_marks.proofs.marks.place_of.Goals as goal

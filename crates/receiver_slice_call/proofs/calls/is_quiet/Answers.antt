@@ -3,24 +3,6 @@ use Rattle.receiver_byte_call.specs.Returned.{is_quiet}
 use borrow.Author.Rules.{rules}
 use Rattle.receiver_slice_call.proofs.calls.is_quiet.Goals as goal
 
-pub enum_told-1 : goal.enum_told-1
-enum_told-1 c = search rules
-
-pub enum_told-in-Begun : goal.enum_told-in-Begun
-enum_told-in-Begun c = search rules
-
-pub enum_told-in-Taken : goal.enum_told-in-Taken
-enum_told-in-Taken c = search rules
-
-pub enum_told-in-Complete : goal.enum_told-in-Complete
-enum_told-in-Complete c = search rules
-
-pub enum_told-in-Dropped : goal.enum_told-in-Dropped
-enum_told-in-Dropped c = search rules
-
-pub enum_told-in-Refused : goal.enum_told-in-Refused
-enum_told-in-Refused c = search rules
-
 pub returns-in-Quiet : goal.returns-in-Quiet
 unfolding is_quiet
 returns-in-Quiet c = cc

@@ -28,7 +28,7 @@ returns-then-not-is_possible c =
 pub returns : goal.returns
 returns c =
     let a = c.args in
-    let e = sliced a.state a.grid.now a.bytes.now (λ j. omega (arith, c.shared_slice_known-1.given j)) c.if-grid-ne20000.false
+    let e = sliced a.state a.grid.now a.bytes.now (λ j. omega (arith, c.type_inv.bytes j)) c.if-grid-ne20000.false
     (sym c.is_possible.ensures ∙ c.if-not-is_possible.false) _ _ c.take_bytes.ensures in
     record { grid_after = e.0; seen_value = e.1; }
 

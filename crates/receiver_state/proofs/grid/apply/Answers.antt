@@ -1,7 +1,6 @@
 -- Each case of the effect; a place outside the grid changes nothing. Assumes nothing.
 use lib.Seq.{set_out}
 use Rattle.receiver_state.specs.Meaning.{applied_to}
-use borrow.Author.Rules.{rules}
 use Rattle.receiver_state.proofs.grid.apply.Goals as goal
 
 pub returns-in-Keep : goal.returns-in-Keep

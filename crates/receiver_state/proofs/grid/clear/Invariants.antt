@@ -1,13 +1,8 @@
 -- The bytes before `i` are 0, and the others are as they came. Assumes nothing.
-use borrow.Author.Rules.{rules}
-use borrow.Author.Fill.{fill_more}
-use Prim.Native.Nat.{ℕ, ◌≤◌, ◌-◌}
-use native.Mathlib.Omega.{arith}
-use mathlib.Core.Path.{◌≡◌, ◌∙◌, ap, refl}
-use mathlib.Core.List.{List, ◌++◌, append-nil}
-use lib.ListN.{length, drop, replicate, set, length-set}
-use lib.Seq.{drop-length}
-use Rattle.text.specs.Part.{zeros}
+use Prim.Native.Nat.{◌≤◌, ◌-◌}
+use mathlib.Core.Path.{◌≡◌}
+use mathlib.Core.List.{◌++◌}
+use lib.ListN.{length, drop, replicate}
 use Rattle.receiver_state.proofs.grid.clear.Given as goal
 
 abbrev pub invariant-loop-i : goal.invariant-loop-i

@@ -38,4 +38,4 @@ returns c =
     let a = c.args in
     rw c.with_modes-state.ensures
     (end_on a.s a.bytes.now c.is_gap.ensures c.kind_of.ensures c.if-is_gap-picture.false c.check_byte-check.ensures c.read_end-read.ensures c.if-bytes-check.false
-    (search (rules, c.well_formed.0.1.1.1.1.1.0)) c.requires.count_value c.requires.in_bounds (λ j. omega (arith, c.shared_slice_known-1.given j)) c.requires.bytes_value c.seen_behind-seen.ensures)
+    (search rules) c.requires.count_value c.requires.in_bounds (λ j. omega (arith, c.type_inv.bytes j)) c.requires.bytes_value c.seen_behind-seen.ensures)

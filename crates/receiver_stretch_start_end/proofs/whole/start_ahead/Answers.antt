@@ -31,4 +31,4 @@ pub returns : goal.returns
 returns c =
     let a = c.args in
     start_on a.s a.bytes.now c.check_byte-check.ensures c.read_start-read.ensures c.if-bytes-check.false c.requires.frame_value c.requires.count_value c.requires.in_bounds
-    (λ j. omega (arith, c.shared_slice_known-1.given j)) c.requires.bytes_value c.seen_behind-seen.ensures
+    (λ j. omega (arith, c.type_inv.bytes j)) c.requires.bytes_value c.seen_behind-seen.ensures

@@ -2,7 +2,6 @@
 use mathlib.Core.Bool.{true}
 use mathlib.Core.List.{[], ◌∷◌}
 use lib.Dec.{leb}
-use borrow.Author.Rules.{rules}
 use Rattle.text_calendar_spec.specs.Calendar.{days_in, is_moment}
 use Rattle.general_laws.proofs.Tests.{both_all}
 use Rattle.text_calendar.proofs.days.is_moment.Goals as goal

@@ -1,5 +1,4 @@
 -- Years, months and days together. Assumes nothing.
-use borrow.Author.Rules.{rules}
 use native.Mathlib.Omega.{arith}
 use Prim.Native.Nat.{◌-◌}
 use Rattle.text_calendar_spec.specs.Minutes.{day_of}

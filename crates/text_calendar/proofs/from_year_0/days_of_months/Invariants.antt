@@ -1,10 +1,7 @@
 -- The months before i are added. Assumes nothing.
-use borrow.Author.Rules.{rules}
-use native.Mathlib.Omega.{arith}
-use mathlib.Core.Path.{◌≡◌, sym, ap, ◌∙◌}
-use Prim.Native.Nat.{◌+◌, ◌-◌, ◌*◌, ◌<◌, ◌≤◌}
+use mathlib.Core.Path.{◌≡◌}
+use Prim.Native.Nat.{◌-◌, ◌*◌, ◌≤◌}
 use Rattle.text_calendar_spec.specs.Minutes.{days_of_months}
-use Rattle.text_calendar_spec.proofs.Laws.{month_step, month_most, no_months}
 use Rattle.text_calendar.proofs.from_year_0.days_of_months.Given as goal
 
 abbrev pub invariant-loop-i : goal.invariant-loop-i

@@ -1,8 +1,7 @@
 -- A day of the years 0000 to 9999, and its minutes. Assumes nothing.
-use borrow.Author.Rules.{rules}
 use native.Mathlib.Omega.{arith}
 use Rattle.text_calendar_spec.specs.Minutes.{minutes_before}
-use Rattle.text_calendar_spec.proofs.Laws.{month_most, InCalendar, in_calendar}
+use Rattle.text_calendar_spec.proofs.Laws.{month_most, in_calendar}
 use Rattle.text_calendar.proofs.from_year_0.minutes_before.Goals as goal
 
 pub day_of-days-requires : goal.day_of-days-requires

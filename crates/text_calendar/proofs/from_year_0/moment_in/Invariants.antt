@@ -1,10 +1,7 @@
 -- The months that are past and the rest make the day. Assumes nothing.
-use borrow.Author.Rules.{rules}
-use native.Mathlib.Omega.{arith}
 use mathlib.Core.Path.{◌≡◌}
-use Prim.Native.Nat.{ℕ, ◌+◌, ◌-◌, ◌<◌, ◌≤◌}
+use Prim.Native.Nat.{◌+◌, ◌-◌, ◌<◌}
 use Rattle.text_calendar_spec.specs.Minutes.{days_of_months}
-use Rattle.text_calendar_spec.proofs.Laws.{no_months, month_step, in_months, moment_found}
 use Rattle.text_calendar.proofs.from_year_0.moment_in.Given as goal
 
 abbrev pub invariant-loop-rest : goal.invariant-loop-rest

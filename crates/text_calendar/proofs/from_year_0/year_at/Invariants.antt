@@ -1,10 +1,6 @@
 -- The year at which the loop stands has begun on the day. Assumes nothing.
-use borrow.Author.Rules.{rules}
-use native.Mathlib.Omega.{arith}
-use Prim.Native.Nat.{◌+◌, ◌-◌, ◌<◌, ◌≤◌}
-use mathlib.Core.Path.{sym}
+use Prim.Native.Nat.{◌-◌, ◌<◌, ◌≤◌}
 use Rattle.text_calendar_spec.specs.Minutes.{days_before_year}
-use Rattle.text_calendar_spec.proofs.Laws.{in_years, year_found}
 use Rattle.text_calendar.proofs.from_year_0.year_at.Given as goal
 
 abbrev pub invariant-loop-year : goal.invariant-loop-year

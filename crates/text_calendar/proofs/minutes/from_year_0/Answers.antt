@@ -1,7 +1,5 @@
 -- A sum that fits and is not negative. Assumes nothing.
-use borrow.Author.Rules.{rules}
 use native.Mathlib.Omega.{arith}
-use Prim.Native.Nat.{ℕ, ◌<◌}
 use mathlib.Core.Path.{◌≡◌, ap, sym, ◌∙◌}
 use mathlib.Core.Bool.{true}
 use lib.IntN.{ℤ, pos, ◌+ℤ◌, nat_abs}
@@ -9,7 +7,7 @@ use mir.Syntax.{w64}
 use mir.Val.{SFits, to_z, of_z}
 use mir.Facts.{to_z-of_z}
 use Rattle.text_calendar_spec.specs.Minutes.{is_minute}
-use Rattle.text_calendar_spec.proofs.Laws.{epoch_is, from_year0, sum_is, moved_up, below}
+use Rattle.text_calendar_spec.proofs.Laws.{from_year0, sum_is, moved_up, below}
 use Rattle.text_calendar.proofs.minutes.from_year_0.Goals as goal
 
 -- the sum fits

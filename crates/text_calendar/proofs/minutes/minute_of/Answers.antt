@@ -1,7 +1,7 @@
 -- The minutes before the moment, counted from the epoch. Assumes nothing.
 use borrow.Author.Rules.{rules}
 use native.Mathlib.Omega.{arith}
-use mathlib.Core.Path.{◌≡◌, ap, ◌∙◌}
+use mathlib.Core.Path.{ap, ◌∙◌}
 use Prim.Native.Nat.{ℕ}
 use lib.IntN.{sub_ℕ}
 use mir.Syntax.{w64}

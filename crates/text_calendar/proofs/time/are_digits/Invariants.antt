@@ -1,14 +1,9 @@
 -- The loop has found a digit at each place below i; i runs to twelve. Assumes nothing.
-use mathlib.Core.Path.{◌≡◌, sym, ◌∙◌}
+use mathlib.Core.Path.{◌≡◌}
 use mathlib.Core.Bool.{true}
 use Prim.Native.Nat.{ℕ, ◌-◌, ◌<◌, ◌≤◌}
-use native.Mathlib.Omega.{arith}
 use lib.Dec.{leb}
-use borrow.Author.Rules.{rules}
-use borrow.Author.Count.{below_more}
-use borrow.Author.Tests.{le-leb, lt-leb}
 use Rattle.general_laws.specs.Bytes.{◌!◌}
-use Rattle.general_laws.proofs.Places.{places_true, places_false, every_by_place}
 use Rattle.text_calendar.proofs.time.are_digits.Given as goal
 
 abbrev pub invariant-loop-i : goal.invariant-loop-i

@@ -1,9 +1,8 @@
 -- The digits of the definition; those of a date and time fit, and so do twelve 0. Assumes nothing.
-use borrow.Author.Rules.{rules}
 use native.Mathlib.Omega.{arith}
-use mathlib.Core.Path.{◌≡◌, refl, ap, sym, ◌∙◌}
-use mathlib.Core.Bool.{Bool, true, false}
-use Prim.Native.Nat.{ℕ, ◌≤◌}
+use mathlib.Core.Path.{◌≡◌}
+use mathlib.Core.Bool.{true, false}
+use Prim.Native.Nat.{◌≤◌}
 use lib.IntN.{ℤ}
 use mir.Facts.{to_z-of_z}
 use Rattle.general_laws.proofs.Tests.{by_test}
@@ -40,24 +39,24 @@ small z = by_test (is_minute z) inside outside
     outside : is_minute z ≡ false → Small (moment_of z)
     outside h = rw h (record { year = omega arith; month = omega arith; day = omega arith; hour = omega arith; minute = omega arith })
 
-is_small : (c : tie.After-moment-of) → Small c.moment_of-t.result
-is_small c = rw c.moment_of-t.ensures (small _)
+is_small : (z : ℤ) (t : Moment) → t ≡ moment_of z → Small t
+is_small z t e = rw e (small z)
 
 pub returns : goal.returns
 unfolding digits_at digits_for
 returns c = rw (c.moment_of-t.ensures, to_z-of_z c.ranges.minute)
 
 pub overflow_cast-result : goal.overflow_cast-result
-overflow_cast-result c = omega (arith, (is_small c).year)
+overflow_cast-result c = omega (arith, (is_small _ _ c.moment_of-t.ensures).year)
 
 pub overflow_cast-result-5 : goal.overflow_cast-result-5
-overflow_cast-result-5 c = omega (arith, (is_small c).month)
+overflow_cast-result-5 c = omega (arith, (is_small _ _ c.moment_of-t.ensures).month)
 
 pub overflow_cast-result-7 : goal.overflow_cast-result-7
-overflow_cast-result-7 c = omega (arith, (is_small c).day)
+overflow_cast-result-7 c = omega (arith, (is_small _ _ c.moment_of-t.ensures).day)
 
 pub overflow_cast-result-9 : goal.overflow_cast-result-9
-overflow_cast-result-9 c = omega (arith, (is_small c).hour)
+overflow_cast-result-9 c = omega (arith, (is_small _ _ c.moment_of-t.ensures).hour)
 
 pub overflow_cast-result-11 : goal.overflow_cast-result-11
-overflow_cast-result-11 c = omega (arith, (is_small c).minute)
+overflow_cast-result-11 c = omega (arith, (is_small _ _ c.moment_of-t.ensures).minute)

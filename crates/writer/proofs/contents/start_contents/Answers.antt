@@ -1,6 +1,5 @@
 -- Status bytes and clock, time and radars, put one behind the other. Assumes nothing.
 use mathlib.Core.Path.{◌≡◌, sym, ap, ap₂, ◌∙◌}
-use mathlib.Core.Logic.{⊎_elim}
 use mathlib.Core.Bool.{Bool, true}
 use mathlib.Core.List.{List, ◌∷◌, ◌++◌}
 use Prim.Native.Nat.{ℕ}
@@ -9,7 +8,7 @@ use lib.IntN.{ℤ}
 use lib.ListN.{length, replicate}
 use borrow.Author.Rules.{rules}
 use mir.Syntax.{w64}
-use mir.Val.{SFits}
+use mir.Val.{SFits, to_z, of_z}
 use mir.Facts.{to_z-of_z}
 use Rattle.general_laws.specs.Bytes.{every, put_at}
 use Rattle.text_calendar_spec.specs.Minutes.{is_minute}
@@ -21,6 +20,7 @@ use Rattle.general_laws.proofs.Places.{by_place}
 use Rattle.general_laws.proofs.Tests.{and_split}
 use Rattle.text_calendar_spec.proofs.Laws.{minute_kept}
 use Rattle.writer_spec.specs.Written.{status_byte, time_text, start_contents}
+use Rattle.writer.proofs.contents.start_contents.Goals.{then-noecho, else-noecho}
 use Rattle.writer.proofs.contents.start_contents.Goals as goal
 
 module _ (no_echo : Bool) (h : WriterHeader) (modes : List ℕ) (eight : length h.radars ≡ 8) where
@@ -50,20 +50,25 @@ unfolding is_time
 small z h = (and_split (every (λ d. leb d 9) (digits_at z)) _ (minute_kept z h).1).0
 
 -- the digits worked out are those of the header's minute
-minuted : (c : tie.After-digits-of) → c.digits_of.result ≡ digits_at c.args.header.minute
-minuted c =
-    let f : SFits w64 c.args.header.minute = search rules in
-    c.digits_of.ensures ∙ ap digits_at (to_z-of_z f)
+minuted : {digits : List ℕ} {z : ℤ} → SFits w64 z → digits ≡ digits_at (to_z w64 (of_z w64 z)) → digits ≡ digits_at z
+minuted f e = e ∙ ap digits_at (to_z-of_z f)
 
 pub time_text-time-requires : goal.time_text-time-requires
 time_text-time-requires c =
-    rw (minuted c) (small c.args.header.minute c.requires.0)
+    let f : SFits w64 c.args.header.minute = search rules in
+    rw (minuted f c.digits_of.ensures) (small c.args.header.minute c.requires.minute_value)
 
 pub returns : goal.returns
 unfolding status_byte clock_bytes
 returns c =
     let a = c.args in
-    let status : c.if-noecho.status1 ≡ status_byte a.noecho = ⊎_elim (λ w. w.1 ∙ rw w.0.taken) (λ w. w.1 ∙ rw w.0.left) c.if-noecho.branch in
-    whole a.noecho a.header a.modes (search (rules, c.well_formed.1.0.1.1.1.0)) status
-    (c.mode_byte-status2.ensures ∙ ap mode_byte c.highest_mode.ensures) (c.time_text-time.ensures ∙ ap time_text (minuted c))
+    let f : SFits w64 a.header.minute = search rules in
+    let eight : length a.header.radars ≡ 8 = search (rules, c.well_formed) in
+    let status : c.if-noecho.status1 ≡ status_byte a.noecho =
+    elim c.if-noecho.branch [
+      | then-noecho w ↦ w.status1-is ∙ rw w.if-noecho.true
+      | else-noecho w ↦ w.status1-is ∙ rw w.if-noecho.false
+    ] in
+    whole a.noecho a.header a.modes eight status
+    (c.mode_byte-status2.ensures ∙ ap mode_byte c.highest_mode.ensures) (c.time_text-time.ensures ∙ ap time_text (minuted f c.digits_of.ensures))
     c.put.ensures c.put-2.ensures c.put-3.ensures

@@ -17,6 +17,7 @@ use Rattle.general_laws.proofs.Lists.{width}
 use Rattle.text_laws.proofs.KindTable.{data_least, few_texts}
 use Rattle.writer_spec.specs.Written.{data_blocks, block_of}
 use Rattle.writer.proofs.PutTexts.{sets_lent, texts_on}
+use Rattle.writer.proofs.data.write_datas.Invariants.{TextsToWrite}
 use Rattle.writer.proofs.data.write_datas.Goals as goal
 
 -- a share fits the part that is lent for its text
@@ -27,15 +28,6 @@ lends payload output from size at p o =
     let share : length (take size (drop from payload)) ≡ size = length-take-le size (drop from payload) (omega (arith, length-drop from payload)) in
     let short = ap (λ n. length (take n (drop from payload))) (width from size) in
     omega (arith, short, share, ap length (part_to_end output at), length-drop at output)
-
--- how many data texts are left, with room for them and a share of the payload for each
-record TextsToWrite (output₀ : List ℕ) (part picture : ℕ) (payload : List ℕ) (last size : ℕ) (output : List ℕ) (k at from : ℕ) : Type 0 where
-  left : ℕ
-  count : k + left ≡ suc last
-  shares : from + left * size ≤ length payload
-  room : at + left * (size + 11) ≤ length output
-  long : length output ≡ length output₀
-  rest : sets output at (texts_of (data_blocks part picture k left (drop from payload))) ≡ sets output₀ 40 (texts_of (data_blocks part picture 1 last payload))
 
 module _ (output₀ : List ℕ) (part picture : ℕ) (payload : List ℕ) (last size : ℕ) where
   begun :
@@ -93,13 +85,13 @@ module _ (output₀ : List ℕ) (part picture : ℕ) (payload : List ℕ) (last 
         sym (ap (λ m. sets output at (texts_of (data_blocks part picture k m (drop from payload)))) none) ∙ v.rest
 
 pub overflow_sub-size : goal.overflow_sub-size
-overflow_sub-size c = omega (arith, c.data_block_length.ensures, data_least c.args.part c.requires.0)
+overflow_sub-size c = omega (arith, c.data_block_length.ensures, data_least c.args.part c.requires.part_value)
 
 pub loop-k-init : goal.loop-k-init
 loop-k-init c =
     let a = c.args in
-    begun a.output.now a.part a.picture a.payload.now _ _ (ap (λ n. n - 3) c.data_block_length.ensures) (omega (arith, data_least a.part c.requires.0))
-    c.data_texts-last.ensures c.requires.1.0 c.requires.1.1
+    begun a.output.now a.part a.picture a.payload.now _ _ (ap (λ n. n - 3) c.data_block_length.ensures) (omega (arith, data_least a.part c.requires.part_value))
+    c.data_texts-last.ensures c.requires.payload_len c.requires.part_in_bounds
 
 pub slice_bounds-write_text-count : goal.slice_bounds-write_text-count
 slice_bounds-write_text-count c = omega (arith, fits _ _ _ _ _ _ c.loop-k.invariant c.loop-k-test.true)

@@ -19,6 +19,15 @@ use Rattle.writer_spec.specs.Written.{data_blocks, block_of}
 use Rattle.writer.proofs.PutTexts.{sets_lent, texts_on}
 use Rattle.writer.proofs.data.write_datas.Given as goal
 
+-- how many data texts are left, with room for them and a share of the payload for each
+pub record TextsToWrite (output₀ : List ℕ) (part picture : ℕ) (payload : List ℕ) (last size : ℕ) (output : List ℕ) (k at from : ℕ) : Type 0 where
+  pub left : ℕ
+  pub count : k + left ≡ suc last
+  pub shares : from + left * size ≤ length payload
+  pub room : at + left * (size + 11) ≤ length output
+  pub long : length output ≡ length output₀
+  pub rest : sets output at (texts_of (data_blocks part picture k left (drop from payload))) ≡ sets output₀ 40 (texts_of (data_blocks part picture 1 last payload))
+
 abbrev pub invariant-loop-k : goal.invariant-loop-k
 invariant-loop-k l =
     TextsToWrite l.initial.output l.part l.picture l.payload l.last l.size l.output l.k l.at l.from

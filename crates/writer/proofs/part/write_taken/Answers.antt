@@ -1,6 +1,5 @@
 -- The start text, the data texts and the end text stand one behind the other; with NO ECHO there are no data texts. Assumes nothing.
 use mathlib.Core.Path.{◌≡◌, sym, ap, ap₂, ◌∙◌}
-use mathlib.Core.Logic.{⊎_elim}
 use mathlib.Core.Bool.{Bool, true, false, not}
 use mathlib.Core.List.{List, [], ◌∷◌, ◌++◌}
 use Prim.Native.Nat.{ℕ, ◌+◌, ◌-◌, ◌≤◌}
@@ -23,6 +22,7 @@ use Rattle.general_laws.proofs.Tests.{and_split, rule_at}
 use Rattle.text_laws.proofs.Framing.{text_length_lem}
 use Rattle.writer_spec.specs.Written.{block_of, data_blocks, start_contents, end_contents, writes_no_echo, written_part}
 use Rattle.writer.proofs.PutTexts.{sets_lent, part_long, part_put, payload_long, no_datas, start_long, end_long, data_bytes_long}
+use Rattle.writer.proofs.part.write_taken.Goals.{then-not-noecho, else-not-noecho}
 use Rattle.writer.proofs.part.write_taken.Goals as goal
 
 -- what a start block's contents ask of a header
@@ -35,47 +35,22 @@ asked h modes t =
 module _ (output first : List ℕ) (part picture : ℕ) (payload : List ℕ) (no_echo : Bool) {now : List ℕ} where
   -- with data texts, and with NO ECHO
   with_datas :
-      not no_echo ≡ true → now ≡ sets output 40 (texts_of (data_blocks part picture 1 (data_texts part false) payload)) → output ≡ first →
+      no_echo ≡ false → now ≡ sets output 40 (texts_of (data_blocks part picture 1 (data_texts part false) payload)) → output ≡ first →
       now ≡ sets first 40 (texts_of (data_blocks part picture 1 (data_texts part no_echo) payload))
-  with_datas h e f = e ∙ ap₂ (λ l t. sets l 40 (texts_of (data_blocks part picture 1 (data_texts part t) payload))) f (sym (not-true no_echo h))
+  with_datas h e f = e ∙ ap₂ (λ l t. sets l 40 (texts_of (data_blocks part picture 1 (data_texts part t) payload))) f (sym h)
 
   without_datas :
-      not no_echo ≡ false → no_echo ≡ writes_no_echo part payload → now ≡ output → output ≡ first →
+      no_echo ≡ true → no_echo ≡ writes_no_echo part payload → now ≡ output → output ≡ first →
       now ≡ sets first 40 (texts_of (data_blocks part picture 1 (data_texts part no_echo) payload))
   unfolding texts_of data_blocks
-  without_datas h w e f =
-      let t = not-false no_echo h in
+  without_datas t w e f =
       let none : data_texts part no_echo ≡ 0 = ap (data_texts part) t ∙ no_datas part payload (sym w ∙ t) in
       e ∙ f ∙ sym (ap (λ n. sets first 40 (texts_of (data_blocks part picture 1 n payload))) none)
 
--- c text and data texts stand in the output
-joined :
-    (c : tie.Joined1) →
-    let a = c.args in
-    c.if-not-noecho.output
-    ≡ sets (sets a.output.now 0 (text_of (block_of a.header.picture (kind_of a.part 0) (start_contents a.noecho a.header a.modes)))) 40
-    (texts_of (data_blocks a.part a.header.picture 1 (data_texts a.part a.noecho) a.payload.now))
-joined c =
-    let a = c.args in
-    let first =
-    c.write_text.ensures
-    ∙ ap₂ (λ k s. sets a.output.now 0 (text_of (block_of a.header.picture k s))) c.kind_of.ensures c.start_contents-start.ensures in
-    ⊎_elim
-    (λ w. with_datas _ _ a.part a.header.picture a.payload.now a.noecho w.0.taken (w.5 ∙ w.2.ensures) first)
-    (λ w. without_datas _ _ a.part a.header.picture a.payload.now a.noecho w.0.left c.requires.modes_value.1.1.0 w.1 first)
-    c.if-not-noecho.branch
-
-joined_long : (c : tie.Joined1) → length c.if-not-noecho.output ≡ length c.args.output.now
-joined_long c =
-    let a = c.args in
-    let text = text_of (block_of a.header.picture (kind_of a.part 0) (start_contents a.noecho a.header a.modes)) in
-    ap length (joined c)
-    ∙ length-sets (sets a.output.now 0 text) 40 (texts_of (data_blocks a.part a.header.picture 1 (data_texts a.part a.noecho) a.payload.now))
-    ∙ length-sets a.output.now 0 text
-
 pub start_contents-start-requires : goal.start_contents-start-requires
 start_contents-start-requires c =
-    asked c.args.header c.args.modes c.requires.modes_value.0
+    let (minute, clock) = asked c.args.header c.args.modes c.requires.modes_value in
+    record { minute_value = minute; clock_bound = clock }
 
 pub write_text-requires : goal.write_text-requires
 write_text-requires c =
@@ -86,32 +61,29 @@ write_text-requires c =
       ap length c.start_contents-start.ensures,
       start_long a.noecho a.header a.modes eight,
       part_long a.part a.noecho c.requires.part_value,
-      c.requires.modes_value.1.1.1,
+      c.requires.noecho_in_bounds,
     )
 
 pub write_datas-requires : goal.write_datas-requires
 write_datas-requires c =
     let a = c.args in
-    let same : length c.write_text.new.0 ≡ length a.output.now = ap length c.write_text.ensures ∙ simp length-sets in (
-      c.requires.part_value,
-      (
-        payload_long a.part a.payload.now c.requires.modes_value.1.0,
-        omega (
-          arith,
-          same,
-          ap (part_length a.part) (c.if-not-noecho.true),
-          part_long a.part false c.requires.part_value,
-          c.requires.modes_value.1.1.1,
-        ),
-      ),
-    )
+    let same : length c.write_text.new.output ≡ length a.output.now = ap length c.write_text.ensures ∙ simp length-sets in
+    record {
+      part_value = c.requires.part_value;
+      payload_len = payload_long a.part a.payload.now c.requires.payload_value;
+      part_in_bounds =
+          omega (
+            arith,
+            same,
+            ap (part_length a.part) (c.if-not-noecho.true),
+            part_long a.part false c.requires.part_value,
+            c.requires.noecho_in_bounds,
+          );
+    }
 
 pub overflow_sub-at : goal.overflow_sub-at
 overflow_sub-at c =
     omega (arith, c.part_length-at.ensures, part_long c.args.part c.args.noecho c.requires.part_value)
-
-pub slice_bounds-write_text-count : goal.slice_bounds-write_text-count
-slice_bounds-write_text-count c = omega (arith, c.part_length-at.ensures, joined_long c, c.requires.modes_value.1.1.1)
 
 pub write_text-requires-2 : goal.write_text-requires-2
 write_text-requires-2 c =
@@ -125,10 +97,10 @@ write_text-requires-2 c =
       end_long a.modes eight,
       ap length (part_to_end output at),
       length-drop at output,
-      joined_long c,
+      c.if-not-noecho.auto.output,
       c.part_length-at.ensures,
       part_long a.part a.noecho c.requires.part_value,
-      c.requires.modes_value.1.1.1,
+      c.requires.noecho_in_bounds,
     )
 
 pub returns : goal.returns
@@ -142,23 +114,23 @@ returns c =
     let block = block_of picture (kind_of a.part 0) (start_contents a.noecho a.header a.modes) in
     let datas = texts_of (data_blocks a.part picture 1 (data_texts a.part a.noecho) a.payload.now) in
     let end = text_of (block_of picture (kind_of a.part 11) (end_contents a.modes)) in
+    let first =
+    c.write_text.ensures
+    ∙ ap₂ (λ k s. sets a.output.now 0 (text_of (block_of picture k s))) c.kind_of.ensures c.start_contents-start.ensures in
+    let joined : output ≡ sets (sets a.output.now 0 (text_of block)) 40 datas =
+    elim c.if-not-noecho.branch [
+      | then-not-noecho w ↦ with_datas _ _ a.part picture a.payload.now a.noecho w.if-not-noecho.true (w.output-is ∙ w.write_datas.ensures) first
+      | else-not-noecho w ↦ without_datas _ _ a.part picture a.payload.now a.noecho w.if-not-noecho.false c.requires.noecho_value w.output-is first
+    ] in
     let place : at ≡ 40 + length datas =
     omega (
       arith,
       c.part_length-at.ensures,
       part_long a.part a.noecho c.requires.part_value,
-      data_bytes_long a.part picture a.payload.now a.noecho c.requires.part_value (payload_long a.part a.payload.now c.requires.modes_value.1.0),
+      data_bytes_long a.part picture a.payload.now a.noecho c.requires.part_value (payload_long a.part a.payload.now c.requires.payload_value),
     ) in
     sets_lent output at (text_of (block_of picture c.kind_of-2.result c.end_contents-end.result)) c.write_text-2.ensures
     ∙ ap₂ (λ k e. sets output at (text_of (block_of picture k e))) c.kind_of-2.ensures c.end_contents-end.ensures
-    ∙ ap₂ (λ l n. sets l n end) (joined c) place
+    ∙ ap₂ (λ l n. sets l n end) joined place
     ∙ part_put a.output.now (text_of block) datas end (omega (arith, text_length_lem block, start_long a.noecho a.header a.modes eight))
-    ∙ ap (λ t. sets a.output.now 0 (text_of (block_of picture (kind_of a.part 0) (start_contents t a.header a.modes)) ++ (texts_of (data_blocks a.part picture 1 (data_texts a.part t) a.payload.now) ++ end))) c.requires.modes_value.1.1.0
-
-pub shape_of-output : goal.shape_of-output
-shape_of-output c =
-    let a = c.args in
-    ap length (returns c) ∙ length-sets a.output.now 0 (part_bytes (written_part a.part a.header a.modes a.payload.now))
-
-pub slice_bounds-write_text-start : goal.slice_bounds-write_text-start
-slice_bounds-write_text-start c = slice_bounds-write_text-count c
+    ∙ ap (λ t. sets a.output.now 0 (text_of (block_of picture (kind_of a.part 0) (start_contents t a.header a.modes)) ++ (texts_of (data_blocks a.part picture 1 (data_texts a.part t) a.payload.now) ++ end))) c.requires.noecho_value
