@@ -2,6 +2,8 @@
 // ends while a text is under way (11), and ten that must be refused (2).
 use crate::refusals::{ALL, both};
 use receiver_state::state::State;
+use std::io;
+use std::io::Write;
 
 // Place, kind, picture code, part, due text, check byte and count of the bytes seen
 const STATES: [[u8; 7]; 14] = [
@@ -43,10 +45,11 @@ const DIGITS: [[u8; 12]; 14] = [
 ];
 
 // Each with all twenty marks and a grid of the right length
-pub fn states(held: State, grid: &mut [u8]) {
+pub fn states<W: Write>(out: &mut W, held: State, grid: &mut [u8]) -> io::Result<()> {
     let mut i = 0;
     while i < 14 {
-        both(held, grid, 20000, STATES[i], DIGITS[i], ALL);
+        both(out, held, grid, 20000, STATES[i], DIGITS[i], ALL)?;
         i += 1;
     }
+    Ok(())
 }

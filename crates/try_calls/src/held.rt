@@ -1,6 +1,8 @@
 // What is held: a state's header and modes, and the grid.
 use crate::print::{byte, end_line, list, number, signed};
 use receiver_state::state::State;
+use std::io;
+use std::io::Write;
 
 // Adler-32 begun at 0, so that zeros have 0: a sum of the bytes, and a sum of these sums, so that a
 // byte's place tells too
@@ -17,17 +19,17 @@ fn sum(grid: &[u8]) -> u64 {
 }
 
 // Header, modes and the grid's sum, to the line's end
-pub fn numbers(s: State, grid: &[u8]) {
+pub fn numbers<W: Write>(out: &mut W, s: State, grid: &[u8]) -> io::Result<()> {
     let header = s.header;
     let radars = header.radars;
     let modes = s.modes;
-    signed(header.minute);
-    list(&radars);
-    number(header.clock as u64);
-    byte(header.picture);
-    byte(header.mode);
-    number(header.noecho as u64);
-    list(&modes);
-    number(sum(grid));
-    end_line();
+    signed(out, header.minute)?;
+    list(out, &radars)?;
+    number(out, header.clock as u64)?;
+    byte(out, header.picture)?;
+    byte(out, header.mode)?;
+    number(out, header.noecho as u64)?;
+    list(out, &modes)?;
+    number(out, sum(grid))?;
+    end_line(out)
 }

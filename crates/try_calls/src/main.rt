@@ -30,9 +30,11 @@ mod runs;
 
 ghost use Rattle.std.specs.Prelude.{◌+◌, ◌≤◌, length};
 
-use libc::STDIN_FILENO;
+use program_streams::read_full;
 use receiver_marks::marks::all_marks;
 use receiver_state::state::{State, fresh};
+use std::io;
+use std::io::{BufWriter, Write};
 
 fn two_bytes(high: u8, low: u8) -> usize {
     high as usize * 256 + low as usize
@@ -51,34 +53,36 @@ fn length_at(input: &[u8], at: usize) -> usize
     said
 }
 
-fn part(state: State, grid: &mut [u8], record: &[u8]) -> State {
-    print::word(b"part");
-    print::number(record.len() as u64);
-    print::end_line();
-    let s = runs::by_slices(state, grid, record);
-    runs::by_bytes(s, grid, record)
+fn part<W: Write>(out: &mut W, state: State, grid: &mut [u8], record: &[u8]) -> io::Result<State> {
+    print::word(out, b"part")?;
+    print::number(out, record.len() as u64)?;
+    print::end_line(out)?;
+    let s = runs::by_slices(out, state, grid, record)?;
+    runs::by_bytes(out, s, grid, record)
 }
 
-fn parts(grid: &mut [u8], input: &[u8]) -> State {
+fn parts<W: Write>(out: &mut W, grid: &mut [u8], input: &[u8]) -> io::Result<State> {
     let mut s = fresh(all_marks());
     let mut at = 0;
     while at + 2 <= input.len() {
         let start = at + 2;
         let end = start + length_at(input, at);
-        s = part(s, grid, &input[start..end]);
+        s = part(out, s, grid, &input[start..end])?;
         at = end;
     }
-    s
+    Ok(s)
 }
 
-fn main() {
-    let mut buffer = io::buffer();
-    let n = io::read_full(STDIN_FILENO, &mut buffer);
+fn main(rt: HostRuntime) -> io::Result<()> {
+    let mut buffer = [0u8; 4096];
+    let n = read_full(&mut rt.stdin(), &mut buffer)?;
+    let mut out = BufWriter::new(rt.alloc(), rt.stdout())?;
     let mut grid = [0u8; 20000];
-    let last = parts(&mut grid, &buffer[..n]);
-    refusals::states(last, &mut grid);
-    refusals::marks(last, &mut grid);
-    digits::states(last, &mut grid);
+    let last = parts(&mut out, &mut grid, &buffer[..n])?;
+    refusals::states(&mut out, last, &mut grid)?;
+    refusals::marks(&mut out, last, &mut grid)?;
+    digits::states(&mut out, last, &mut grid)?;
     let mut others = [7u8; 20001];
-    refusals::lengths(last, &mut others);
+    refusals::lengths(&mut out, last, &mut others)?;
+    out.flush()
 }

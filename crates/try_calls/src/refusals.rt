@@ -6,6 +6,8 @@ use receiver_byte_call::calls::{CallResult, byte_call};
 use receiver_slice_call::calls::slice_call;
 use receiver_state::answer::{Answer, number_of};
 use receiver_state::state::{Frame, State};
+use std::io;
+use std::io::Write;
 
 // Too few bytes for a grid, and too many
 const LENGTHS: [usize; 3] = [0, 19999, 20001];
@@ -38,44 +40,52 @@ const NO_DIGITS: [u8; 12] = [0; 12];
 // All twenty marks and none; the mark beyond the twentieth, and every bit
 const MARKS: [u32; 4] = [ALL, 0, 1048576, 4294967295];
 
-fn answer_word(answer: Answer) {
+fn answer_word<W: Write>(out: &mut W, answer: Answer) -> io::Result<()> {
     match answer {
-        Answer::Refused(_) => word(b"refused"),
-        _ => word(b"answered"),
+        Answer::Refused(_) => word(out, b"refused"),
+        _ => word(out, b"answered"),
     }
 }
 
-fn frame_numbers(f: Frame) {
-    number(f.place as u64);
-    byte(f.kind);
-    byte(f.picture);
-    byte(f.part);
-    byte(f.due);
-    byte(f.check);
-    byte(f.count);
+fn frame_numbers<W: Write>(out: &mut W, f: Frame) -> io::Result<()> {
+    number(out, f.place as u64)?;
+    byte(out, f.kind)?;
+    byte(out, f.picture)?;
+    byte(out, f.part)?;
+    byte(out, f.due)?;
+    byte(out, f.check)?;
+    byte(out, f.count)
 }
 
-fn line(call: u8, res: CallResult, grid: &[u8]) {
+fn line<W: Write>(out: &mut W, call: u8, res: CallResult, grid: &[u8]) -> io::Result<()> {
     let answer = res.answer;
     let s = res.state;
     let f = s.frame;
     let digits = s.digits;
-    answer_word(answer);
-    byte(call);
-    byte(number_of(answer));
-    number(res.count as u64);
-    number(s.seen);
-    frame_numbers(f);
-    number(s.marks as u64);
-    twelve(digits);
-    numbers(s, grid);
+    answer_word(out, answer)?;
+    byte(out, call)?;
+    byte(out, number_of(answer))?;
+    number(out, res.count as u64)?;
+    number(out, s.seen)?;
+    frame_numbers(out, f)?;
+    number(out, s.marks as u64)?;
+    twelve(out, digits)?;
+    numbers(out, s, grid)
 }
 
 // Both calls, lent `n` bytes of `space`, in a state with the header and modes of `held`, these digits
 // and marks, and the control bytes as the last bytes seen. The byte would end an opening
-pub fn both(held: State, space: &mut [u8], n: usize, f: [u8; 7], digits: [u8; 12], marks: u32) {
+pub fn both<W: Write>(
+    out: &mut W,
+    held: State,
+    space: &mut [u8],
+    n: usize,
+    f: [u8; 7],
+    digits: [u8; 12],
+    marks: u32,
+) -> io::Result<()> {
     if space.len() < n {
-        return;
+        return Ok(());
     }
     let header = held.header;
     let modes = held.modes;
@@ -97,44 +107,48 @@ pub fn both(held: State, space: &mut [u8], n: usize, f: [u8; 7], digits: [u8; 12
     };
     let grid = &mut space[..n];
     let one = byte_call(s, grid, 0xFD);
-    line(1, one, grid);
+    line(out, 1, one, grid)?;
     let some = slice_call(s, grid, b"\xFD");
-    line(2, some, grid);
+    line(out, 2, some, grid)
 }
 
 // Each impossible state, with a grid of the right length
-pub fn states(held: State, grid: &mut [u8]) {
+pub fn states<W: Write>(out: &mut W, held: State, grid: &mut [u8]) -> io::Result<()> {
     let mut i = 0;
     while i < 12 {
-        both(held, grid, 20000, STATES[i], NO_DIGITS, ALL);
+        both(out, held, grid, 20000, STATES[i], NO_DIGITS, ALL)?;
         i += 1;
     }
+    Ok(())
 }
 
 // A possible state with all twenty marks, with none, with the mark beyond them alone and with every
 // bit set (Request 101): the last two are refused
-pub fn marks(held: State, grid: &mut [u8]) {
+pub fn marks<W: Write>(out: &mut W, held: State, grid: &mut [u8]) -> io::Result<()> {
     let mut i = 0;
     while i < 4 {
         both(
+            out,
             held,
             grid,
             20000,
             [0, 0, 0, 0, 0, 0, 5],
             NO_DIGITS,
             MARKS[i],
-        );
+        )?;
         i += 1;
     }
+    Ok(())
 }
 
 // Each length with a possible state, and with one of six bytes seen: 1 comes before 2
-pub fn lengths(held: State, space: &mut [u8]) {
+pub fn lengths<W: Write>(out: &mut W, held: State, space: &mut [u8]) -> io::Result<()> {
     let mut i = 0;
     while i < 3 {
         let n = LENGTHS[i];
-        both(held, space, n, [0, 0, 0, 0, 0, 0, 5], NO_DIGITS, ALL);
-        both(held, space, n, [0, 0, 0, 0, 0, 0, 6], NO_DIGITS, ALL);
+        both(out, held, space, n, [0, 0, 0, 0, 0, 0, 5], NO_DIGITS, ALL)?;
+        both(out, held, space, n, [0, 0, 0, 0, 0, 0, 6], NO_DIGITS, ALL)?;
         i += 1;
     }
+    Ok(())
 }

@@ -7,56 +7,71 @@ use receiver_byte_call::calls::byte_call;
 use receiver_slice_call::calls::slice_call;
 use receiver_state::answer::number_of;
 use receiver_state::state::State;
+use std::io;
+use std::io::Write;
 use text_kinds::table::is_start_kind;
 
 // Ends the line of an answer, and says what is held after answer 3 and after a drop
-fn after(taken: usize, answer: u8, s: State, grid: &[u8]) {
-    number(taken as u64);
-    byte(answer);
-    end_line();
+fn after<W: Write>(out: &mut W, taken: usize, answer: u8, s: State, grid: &[u8]) -> io::Result<()> {
+    number(out, taken as u64)?;
+    byte(out, answer)?;
+    end_line(out)?;
     if answer == 3 {
-        word(b"held");
-        numbers(s, grid);
+        word(out, b"held")?;
+        numbers(out, s, grid)?;
     }
     if answer > 10 {
-        word(b"dropped");
-        numbers(s, grid);
+        word(out, b"dropped")?;
+        numbers(out, s, grid)?;
     }
+    Ok(())
 }
 
-fn cut_line(k: usize, taken: usize, answer: u8, s: State, grid: &[u8]) {
+fn cut_line<W: Write>(
+    out: &mut W,
+    k: usize,
+    taken: usize,
+    answer: u8,
+    s: State,
+    grid: &[u8],
+) -> io::Result<()> {
     if answer == 0 {
-        return;
+        return Ok(());
     }
-    word(b"cut");
-    number(k as u64);
-    after(taken, answer, s, grid);
+    word(out, b"cut")?;
+    number(out, k as u64)?;
+    after(out, taken, answer, s, grid)
 }
 
 // At places 8 to 25 of a start text, the header's minute and the digits of the time that wait in the
 // state (Request 111)
-fn waiting_line(taken: usize, s: State) {
+fn waiting_line<W: Write>(out: &mut W, taken: usize, s: State) -> io::Result<()> {
     let frame = s.frame;
     let header = s.header;
     let digits = s.digits;
     if !is_start_kind(frame.kind) | (frame.place < 8) | (25 < frame.place) {
-        return;
+        return Ok(());
     }
-    word(b"waiting");
-    number(taken as u64);
-    number(frame.place as u64);
-    signed(header.minute);
-    twelve(digits);
-    end_line();
+    word(out, b"waiting")?;
+    number(out, taken as u64)?;
+    number(out, frame.place as u64)?;
+    signed(out, header.minute)?;
+    twelve(out, digits)?;
+    end_line(out)
 }
 
-fn byte_line(taken: usize, answer: u8, s: State, grid: &[u8]) {
+fn byte_line<W: Write>(
+    out: &mut W,
+    taken: usize,
+    answer: u8,
+    s: State,
+    grid: &[u8],
+) -> io::Result<()> {
     if answer == 0 {
-        waiting_line(taken, s);
-        return;
+        return waiting_line(out, taken, s);
     }
-    word(b"byte");
-    after(taken, answer, s, grid);
+    word(out, b"byte")?;
+    after(out, taken, answer, s, grid)
 }
 
 // A number that is too large counts as 0
@@ -70,7 +85,15 @@ fn at_most_or_0(n: usize, most: usize) -> usize
 }
 
 // Gives the bytes from `from` to `to`, by as many calls as that takes
-fn give(state: State, grid: &mut [u8], bytes: &[u8], from: usize, to: usize, k: usize) -> State
+fn give<W: Write>(
+    out: &mut W,
+    state: State,
+    grid: &mut [u8],
+    bytes: &[u8],
+    from: usize,
+    to: usize,
+    k: usize,
+) -> io::Result<State>
     requires { (from ≤ to) × (to ≤ length bytes.now) }
 {
     let mut s = state;
@@ -79,39 +102,55 @@ fn give(state: State, grid: &mut [u8], bytes: &[u8], from: usize, to: usize, k: 
         let result = slice_call(s, grid, &bytes[at..to]);
         let count = result.count;
         if count == 0 {
-            return s;
+            return Ok(s);
         }
         at += count;
         let next = result.state;
         s = next;
         let answer = result.answer;
-        cut_line(k, at, number_of(answer), s, grid);
+        cut_line(out, k, at, number_of(answer), s, grid)?;
     }
-    s
+    Ok(s)
 }
 
 // Two slices. The second text begins after the start text, which has 40 bytes
-fn cut_at(state: State, grid: &mut [u8], bytes: &[u8], k: usize) -> State
+fn cut_at<W: Write>(
+    out: &mut W,
+    state: State,
+    grid: &mut [u8],
+    bytes: &[u8],
+    k: usize,
+) -> io::Result<State>
     requires { k ≤ 6 }
 {
     let n = bytes.len();
     let cut = at_most_or_0(40 + k, n);
-    let s = give(state, grid, bytes, 0, cut, k);
-    give(s, grid, bytes, cut, n, k)
+    let s = give(out, state, grid, bytes, 0, cut, k)?;
+    give(out, s, grid, bytes, cut, n, k)
 }
 
 // Cuts from before the opening's first byte to after its last
-pub fn by_slices(state: State, grid: &mut [u8], bytes: &[u8]) -> State {
+pub fn by_slices<W: Write>(
+    out: &mut W,
+    state: State,
+    grid: &mut [u8],
+    bytes: &[u8],
+) -> io::Result<State> {
     let mut s = state;
     let mut k = 0;
     while k <= 6 {
-        s = cut_at(s, grid, bytes, k);
+        s = cut_at(out, s, grid, bytes, k)?;
         k += 1;
     }
-    s
+    Ok(s)
 }
 
-pub fn by_bytes(state: State, grid: &mut [u8], bytes: &[u8]) -> State {
+pub fn by_bytes<W: Write>(
+    out: &mut W,
+    state: State,
+    grid: &mut [u8],
+    bytes: &[u8],
+) -> io::Result<State> {
     let mut s = state;
     let mut i = 0;
     while i < bytes.len() {
@@ -120,7 +159,7 @@ pub fn by_bytes(state: State, grid: &mut [u8], bytes: &[u8]) -> State {
         let next = result.state;
         s = next;
         let answer = result.answer;
-        byte_line(i, number_of(answer), s, grid);
+        byte_line(out, i, number_of(answer), s, grid)?;
     }
-    s
+    Ok(s)
 }

@@ -4,6 +4,8 @@ ghost use Rattle.std.specs.Prelude.{◌≤◌, ◌<◌, length};
 use crate::out::{list, number, signed, spaced, word};
 use receiver_state::answer::Answer;
 use receiver_state::state::State;
+use std::io;
+use std::io::Write;
 use text::header::Header;
 
 // Where the run of equal bytes from `at` on ends
@@ -22,76 +24,63 @@ fn run_end(grid: &[u8], at: usize) -> usize
     i
 }
 
-fn run(out: &mut [u8], used: usize, count: usize, b: u8) -> usize
-    requires { used ≤ length out.old }
-    ensures { result ≤ length out.old }
-{
-    let counted = spaced(out, used, count as u64);
-    let marked = word(out, counted, b"x");
-    number(out, marked, b as u64)
+fn run<W: Write>(out: &mut W, count: usize, b: u8) -> io::Result<()> {
+    spaced(out, count as u64)?;
+    word(out, b"x")?;
+    number(out, b as u64)
 }
 
 // All bytes of the grid, as runs of equal ones
-fn grid_line(out: &mut [u8], used: usize, grid: &[u8]) -> usize
-    requires { used ≤ length out.old }
-    ensures { result ≤ length out.old }
-{
-    let mut w = word(out, used, b"grid");
+fn grid_line<W: Write>(out: &mut W, grid: &[u8]) -> io::Result<()> {
+    word(out, b"grid")?;
     let mut at = 0;
     while at < grid.len() {
         let end = run_end(grid, at);
-        w = run(out, w, end - at, grid[at]);
+        run(out, end - at, grid[at])?;
         at = end;
     }
-    word(out, w, b"\n")
+    word(out, b"\n")
 }
 
 // Radars and modes, by place
-fn places(out: &mut [u8], used: usize, radars: [u8; 8], modes: [u8; 8]) -> usize
-    requires { used ≤ length out.old }
-    ensures { result ≤ length out.old }
-{
-    let listed = list(out, used, &radars);
-    list(out, listed, &modes)
+fn places<W: Write>(out: &mut W, radars: [u8; 8], modes: [u8; 8]) -> io::Result<()> {
+    list(out, &radars)?;
+    list(out, &modes)
 }
 
 // Picture code, clock, NO ECHO, mode and minute (Request 111)
-fn fields(out: &mut [u8], used: usize, header: Header) -> usize
-    requires { used ≤ length out.old }
-    ensures { result ≤ length out.old }
-{
-    let pictured = spaced(out, used, header.picture as u64);
-    let clocked = spaced(out, pictured, header.clock as u64);
-    let echoed = spaced(out, clocked, header.noecho as u64);
-    let moded = spaced(out, echoed, header.mode as u64);
-    signed(out, moded, header.minute)
+fn fields<W: Write>(out: &mut W, header: Header) -> io::Result<()> {
+    spaced(out, header.picture as u64)?;
+    spaced(out, header.clock as u64)?;
+    spaced(out, header.noecho as u64)?;
+    spaced(out, header.mode as u64)?;
+    signed(out, header.minute)
 }
 
 // Header and modes of a part, which is 1, 2 or 3
-fn header_line(out: &mut [u8], used: usize, part: u8, s: State) -> usize
-    requires { used ≤ length out.old }
-    ensures { result ≤ length out.old }
-{
+fn header_line<W: Write>(out: &mut W, part: u8, s: State) -> io::Result<()> {
     let header = s.header;
     let radars = header.radars;
     let modes = s.modes;
-    let named = word(out, used, b"held");
-    let numbered = spaced(out, named, part as u64);
-    let headed = fields(out, numbered, header);
-    let ended = places(out, headed, radars, modes);
-    word(out, ended, b"\n")
+    word(out, b"held")?;
+    spaced(out, part as u64)?;
+    fields(out, header)?;
+    places(out, radars, modes)?;
+    word(out, b"\n")
 }
 
 // At answer 3 the receiver holds a part
-pub fn part_lines(out: &mut [u8], used: usize, answer: Answer, s: State, grid: &[u8]) -> usize
-    requires { used ≤ length out.old }
-    ensures { result ≤ length out.old }
-{
+pub fn part_lines<W: Write>(
+    out: &mut W,
+    answer: Answer,
+    s: State,
+    grid: &[u8],
+) -> io::Result<()> {
     match answer {
         Answer::Complete(part) => {
-            let headed = header_line(out, used, part, s);
-            grid_line(out, headed, grid)
+            header_line(out, part, s)?;
+            grid_line(out, grid)
         }
-        _ => used,
+        _ => Ok(()),
     }
 }

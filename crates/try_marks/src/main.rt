@@ -27,10 +27,12 @@ mod runs;
 
 ghost use Rattle.std.specs.Prelude.{◌+◌, ◌≤◌, length};
 
-use crate::out::{flush, spaced, word};
+use crate::out::{spaced, word};
 use crate::runs::{by_bytes, by_slices};
-use libc::STDIN_FILENO;
+use program_streams::read_full;
 use receiver_state::state::{State, count_marks, fresh};
+use std::io;
+use std::io::{BufWriter, Write};
 
 fn four_bytes(first: u8, second: u8, third: u8, fourth: u8) -> u32 {
     let high = first as u32 * 256 + second as u32;
@@ -47,74 +49,59 @@ fn number_at(input: &[u8], at: usize) -> u32
 
 // What fresh makes of the number, which is no mark at all where one beyond the twentieth is set, and
 // the number itself in a state, where only the twenty are counted
-fn marks_line(out: &mut [u8], used: usize, number: u32) -> usize
-    requires { used ≤ length out.old }
-    ensures { result ≤ length out.old }
-{
+fn marks_line<W: Write>(out: &mut W, number: u32) -> io::Result<()> {
     let mut state = fresh(number);
-    let named = word(out, used, b"marks");
-    let numbered = spaced(out, named, number as u64);
-    let counted = spaced(out, numbered, count_marks(state) as u64);
+    word(out, b"marks")?;
+    spaced(out, number as u64)?;
+    spaced(out, count_marks(state) as u64)?;
     state.marks = number;
-    let ended = spaced(out, counted, count_marks(state) as u64);
-    word(out, ended, b"\n")
+    spaced(out, count_marks(state) as u64)?;
+    word(out, b"\n")
 }
 
 // Marks of a state, and how many are counted
-fn marks_and_count(out: &mut [u8], used: usize, state: State) -> usize
-    requires { used ≤ length out.old }
-    ensures { result ≤ length out.old }
-{
-    let marked = spaced(out, used, state.marks as u64);
-    spaced(out, marked, count_marks(state) as u64)
+fn marks_and_count<W: Write>(out: &mut W, state: State) -> io::Result<()> {
+    spaced(out, state.marks as u64)?;
+    spaced(out, count_marks(state) as u64)
 }
 
-fn end_line(out: &mut [u8], used: usize, sliced: State, single: State) -> usize
-    requires { used ≤ length out.old }
-    ensures { result ≤ length out.old }
-{
-    let named = word(out, used, b"end");
-    let first = marks_and_count(out, named, sliced);
-    let second = marks_and_count(out, first, single);
-    word(out, second, b"\n")
+fn end_line<W: Write>(out: &mut W, sliced: State, single: State) -> io::Result<()> {
+    word(out, b"end")?;
+    marks_and_count(out, sliced)?;
+    marks_and_count(out, single)?;
+    word(out, b"\n")
 }
 
 // All lines of one number
-fn of_number(number: u32, stream: &[u8], out: &mut [u8], used: usize) -> usize
-    requires { used ≤ length out.old }
-    ensures { result ≤ length out.old }
-{
-    let marked = marks_line(out, used, number);
-    let slices = by_slices(fresh(number), stream, out, marked);
-    let bytes = by_bytes(fresh(number), stream, out, slices.used);
-    let sliced = slices.state;
-    let single = bytes.state;
-    end_line(out, bytes.used, sliced, single)
+fn of_number<W: Write>(out: &mut W, number: u32, stream: &[u8]) -> io::Result<()> {
+    marks_line(out, number)?;
+    let sliced = by_slices(out, fresh(number), stream)?;
+    let single = by_bytes(out, fresh(number), stream)?;
+    end_line(out, sliced, single)
 }
 
 // All lines of the input
-fn of_input(input: &[u8], out: &mut [u8]) {
+fn of_input<W: Write>(out: &mut W, input: &[u8]) -> io::Result<()> {
     if input.len() == 0 {
-        return;
+        return Ok(());
     }
     let count = input[0] as usize;
     let start = 1 + 4 * count;
     if input.len() < start {
-        return;
+        return Ok(());
     }
-    let mut used = 0;
     let mut i = 0;
     while i < count {
         let number = number_at(input, 1 + 4 * i);
-        used = of_number(number, &input[start..], out, used);
+        of_number(out, number, &input[start..])?;
         i += 1;
     }
-    flush(out, used);
+    out.flush()
 }
 
-fn main() {
-    let mut buffer = io::large_buffer();
-    let n = io::read_full(STDIN_FILENO, &mut buffer);
-    let mut out = io::large_buffer();
-    of_input(&buffer[..n], &mut out);
+fn main(rt: HostRuntime) -> io::Result<()> {
+    let mut buffer = [0u8; 65536];
+    let n = read_full(&mut rt.stdin(), &mut buffer)?;
+    let mut out = BufWriter::new(rt.alloc(), rt.stdout())?;
+    of_input(&mut out, &buffer[..n])
 }

@@ -7,24 +7,26 @@ use receiver_marks::marks::all_marks;
 use receiver_state::answer::number_of;
 use receiver_state::state::{State, fresh};
 use service_bytes_left::left::{BytesLeftResult, bytes_left};
+use std::io;
+use std::io::Write;
 
 // To the line's end
-pub fn end_with(left: BytesLeftResult) {
+pub fn end_with<W: Write>(out: &mut W, left: BytesLeftResult) -> io::Result<()> {
     match left {
         BytesLeftResult::Bytes(n) => {
-            word(b" left");
-            number(n as u64);
+            word(out, b" left")?;
+            number(out, n as u64)?;
         }
-        BytesLeftResult::Refused(row) => refused(row),
+        BytesLeftResult::Refused(row) => refused(out, row)?,
     }
-    end_line();
+    end_line(out)
 }
 
-fn line(taken: usize, place: u16, s: State) {
-    word(b"taken");
-    number(taken as u64);
-    number(place as u64);
-    end_with(bytes_left(s));
+fn line<W: Write>(out: &mut W, taken: usize, place: u16, s: State) -> io::Result<()> {
+    word(out, b"taken")?;
+    number(out, taken as u64)?;
+    number(out, place as u64)?;
+    end_with(out, bytes_left(s))
 }
 
 fn is_between(place: u16, first: u16, last: u16) -> bool {
@@ -49,14 +51,15 @@ fn is_shown(place: u16) -> bool {
 }
 
 // After each byte that is answered, and at places that are shown
-fn after(taken: usize, answer: u8, s: State) {
+fn after<W: Write>(out: &mut W, taken: usize, answer: u8, s: State) -> io::Result<()> {
     let f = s.frame;
     if (answer != 0) | is_shown(f.place) {
-        line(taken, f.place, s);
+        line(out, taken, f.place, s)?;
     }
+    Ok(())
 }
 
-fn feed_part(grid: &mut [u8], bytes: &[u8]) {
+fn feed_part<W: Write>(out: &mut W, grid: &mut [u8], bytes: &[u8]) -> io::Result<()> {
     let mut s = fresh(all_marks());
     let mut i = 0;
     while i < bytes.len() {
@@ -65,22 +68,23 @@ fn feed_part(grid: &mut [u8], bytes: &[u8]) {
         let next = result.state;
         s = next;
         let answer = result.answer;
-        after(i, number_of(answer), s);
+        after(out, i, number_of(answer), s)?;
     }
+    Ok(())
 }
 
 // An output of the longest part's length takes each
-fn of_part(part: u8) {
+fn of_part<W: Write>(out: &mut W, part: u8) -> io::Result<()> {
     let mut output = [0u8; 20190];
     let n = make(part, true, &mut output);
     let mut grid = [0u8; 20000];
-    about_part(part, &output[..n]);
-    feed_part(&mut grid, &output[..n]);
+    about_part(out, part, &output[..n])?;
+    feed_part(out, &mut grid, &output[..n])
 }
 
-pub fn lines() {
-    line(0, 0, fresh(all_marks()));
-    of_part(1);
-    of_part(2);
-    of_part(3);
+pub fn lines<W: Write>(out: &mut W) -> io::Result<()> {
+    line(out, 0, 0, fresh(all_marks()))?;
+    of_part(out, 1)?;
+    of_part(out, 2)?;
+    of_part(out, 3)
 }

@@ -37,13 +37,18 @@ mod refusals;
 mod samples;
 mod sums;
 
-fn main() {
-    levels::lines();
-    levels::dry_lines();
-    refusals::lines();
-    overlays::lines();
-    clocks::lines();
-    payloads::lines();
-    left::lines();
-    made_up::lines();
+use std::io;
+use std::io::{BufWriter, Write};
+
+fn main(rt: HostRuntime) -> io::Result<()> {
+    let mut out = BufWriter::new(rt.alloc(), rt.stdout())?;
+    levels::lines(&mut out)?;
+    levels::dry_lines(&mut out)?;
+    refusals::lines(&mut out)?;
+    overlays::lines(&mut out)?;
+    clocks::lines(&mut out)?;
+    payloads::lines(&mut out)?;
+    left::lines(&mut out)?;
+    made_up::lines(&mut out)?;
+    out.flush()
 }

@@ -5,6 +5,8 @@ use crate::print::{end_line, number, refused, word};
 use crate::samples::fill_grid;
 use crate::sums::{about, adler};
 use service_overlay::grids::{OverlayResult, overlay};
+use std::io;
+use std::io::Write;
 
 // What the third grid is full of before a call: level 15, which is no ground to refuse a grid that
 // is not read
@@ -18,45 +20,59 @@ fn prepare(third: &mut [u8]) {
     }
 }
 
-fn line(first: &[u8], second: &[u8], third: &mut [u8]) {
+fn line<W: Write>(out: &mut W, first: &[u8], second: &[u8], third: &mut [u8]) -> io::Result<()> {
     prepare(third);
-    word(b"overlay");
-    number(first.len() as u64);
-    number(second.len() as u64);
-    number(third.len() as u64);
+    word(out, b"overlay")?;
+    number(out, first.len() as u64)?;
+    number(out, second.len() as u64)?;
+    number(out, third.len() as u64)?;
     let result = overlay(first, second, third);
     match result {
-        OverlayResult::Done => word(b" laid"),
-        OverlayResult::Refused(row) => refused(row),
+        OverlayResult::Done => word(out, b" laid")?,
+        OverlayResult::Refused(row) => refused(out, row)?,
     }
-    number(adler(third));
-    end_line();
+    number(out, adler(third))?;
+    end_line(out)
 }
 
 // Either way round, each over itself, and over zeros
-fn pairs(first: &[u8], second: &[u8], zeros: &[u8], third: &mut [u8]) {
-    about(b"grid", first);
-    about(b"grid", second);
-    line(first, second, third);
-    line(second, first, third);
-    line(first, first, third);
-    line(second, second, third);
-    line(first, zeros, third);
-    line(zeros, second, third);
+fn pairs<W: Write>(
+    out: &mut W,
+    first: &[u8],
+    second: &[u8],
+    zeros: &[u8],
+    third: &mut [u8],
+) -> io::Result<()> {
+    about(out, b"grid", first)?;
+    about(out, b"grid", second)?;
+    line(out, first, second, third)?;
+    line(out, second, first, third)?;
+    line(out, first, first, third)?;
+    line(out, second, second, third)?;
+    line(out, first, zeros, third)?;
+    line(out, zeros, second, third)
 }
 
-fn shown() {
+fn shown<W: Write>(out: &mut W) -> io::Result<()> {
     let mut first = [0u8; 20000];
     fill_grid(true, &mut first);
     let mut second = [0u8; 20000];
     fill_grid(false, &mut second);
     let zeros = [0u8; 20000];
     let mut third = [0u8; 20000];
-    pairs(&first, &second, &zeros, &mut third);
+    pairs(out, &first, &second, &zeros, &mut third)
 }
 
 // The two sample grids in `a` and `b` bytes, with these bytes at `place`, and a third in `c` bytes
-fn altered(a: usize, b: usize, c: usize, place: usize, one: u8, other: u8)
+fn altered<W: Write>(
+    out: &mut W,
+    a: usize,
+    b: usize,
+    c: usize,
+    place: usize,
+    one: u8,
+    other: u8,
+) -> io::Result<()>
     requires { (a ≤ 20001) × (b ≤ 20001) × (c ≤ 20001) × (place < 20001) }
 {
     let mut first = [0u8; 20001];
@@ -66,43 +82,43 @@ fn altered(a: usize, b: usize, c: usize, place: usize, one: u8, other: u8)
     fill_grid(false, &mut second);
     second[place] = other;
     let mut third = [0u8; 20001];
-    line(&first[..a], &second[..b], &mut third[..c]);
+    line(out, &first[..a], &second[..b], &mut third[..c])
 }
 
 // Row 42, for each of the three
-fn length(n: usize)
+fn length<W: Write>(out: &mut W, n: usize) -> io::Result<()>
     requires { n ≤ 20001 }
 {
-    altered(n, 20000, 20000, 0, 0, 0);
-    altered(20000, n, 20000, 0, 0, 0);
-    altered(20000, 20000, n, 0, 0, 0);
+    altered(out, n, 20000, 20000, 0, 0, 0)?;
+    altered(out, 20000, n, 20000, 0, 0, 0)?;
+    altered(out, 20000, 20000, n, 0, 0, 0)
 }
 
 // Row 43, for each of the two that are read, in both halves of a byte
-fn level_15(place: usize)
+fn level_15<W: Write>(out: &mut W, place: usize) -> io::Result<()>
     requires { place < 20000 }
 {
-    altered(20000, 20000, 20000, place, 0xF0, 0);
-    altered(20000, 20000, 20000, place, 0x0F, 0);
-    altered(20000, 20000, 20000, place, 0, 0xF0);
-    altered(20000, 20000, 20000, place, 0, 0x0F);
+    altered(out, 20000, 20000, 20000, place, 0xF0, 0)?;
+    altered(out, 20000, 20000, 20000, place, 0x0F, 0)?;
+    altered(out, 20000, 20000, 20000, place, 0, 0xF0)?;
+    altered(out, 20000, 20000, 20000, place, 0, 0x0F)
 }
 
 // 42 comes before 43; and what lies behind a grid is none of it
-fn order() {
-    altered(19999, 20000, 20000, 0, 0xFF, 0xFF);
-    altered(20000, 20001, 20000, 0, 0xFF, 0xFF);
-    altered(20000, 20000, 19999, 0, 0xFF, 0xFF);
-    altered(20000, 20000, 20000, 20000, 0xFF, 0xFF);
+fn order<W: Write>(out: &mut W) -> io::Result<()> {
+    altered(out, 19999, 20000, 20000, 0, 0xFF, 0xFF)?;
+    altered(out, 20000, 20001, 20000, 0, 0xFF, 0xFF)?;
+    altered(out, 20000, 20000, 19999, 0, 0xFF, 0xFF)?;
+    altered(out, 20000, 20000, 20000, 20000, 0xFF, 0xFF)
 }
 
-pub fn lines() {
-    shown();
-    length(19999);
-    length(20001);
-    length(0);
-    level_15(0);
-    level_15(10000);
-    level_15(19999);
-    order();
+pub fn lines<W: Write>(out: &mut W) -> io::Result<()> {
+    shown(out)?;
+    length(out, 19999)?;
+    length(out, 20001)?;
+    length(out, 0)?;
+    level_15(out, 0)?;
+    level_15(out, 10000)?;
+    level_15(out, 19999)?;
+    order(out)
 }

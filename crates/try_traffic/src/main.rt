@@ -17,52 +17,68 @@ mod out;
 mod runs;
 
 use crate::runs::FeedResult;
-use libc::STDIN_FILENO;
 use receiver_marks::marks::all_marks;
 use receiver_state::state::fresh;
+use std::io;
+use std::io::{BufWriter, Read, Write};
 
 // Reads once, as much as there is, and gives it to the receiver
-fn read_and_feed(
+fn read_and_feed<R: Read, W: Write>(
+    input: &mut R,
+    out: &mut W,
     fed: FeedResult,
     grid: &mut [u8],
     other: &mut [u8],
     buffer: &mut [u8],
-    out: &mut [u8],
-) -> FeedResult {
-    let read = libc::read(STDIN_FILENO, buffer);
-    if read <= 0 {
+) -> io::Result<FeedResult> {
+    let n = input.read(buffer)?;
+    if n == 0 {
         let sliced = fed.sliced;
         let single = fed.single;
-        return FeedResult {
+        return Ok(FeedResult {
             sliced,
             single,
             total: fed.total,
             goes_on: false,
-        };
+        });
     }
-    let n = io::count(read, buffer);
-    runs::feed(fed, grid, other, &buffer[..n], out)
+    runs::feed(out, fed, grid, other, &buffer[..n])
 }
 
-// A proved loop has to end, and nothing says that the input does: the loop counts its turns down,
-// from a number that no run uses up
-fn main() {
-    let mut grid = [0u8; 20000];
-    let mut other = [0u8; 20000];
-    let mut buffer = io::large_buffer();
-    let mut out = io::large_buffer();
+// A proved loop has to end, and nothing says that the input does: the loop has more turns than any
+// run uses up
+fn feed_all<R: Read, W: Write>(
+    input: &mut R,
+    out: &mut W,
+    grid: &mut [u8],
+    other: &mut [u8],
+    buffer: &mut [u8],
+) -> io::Result<()> {
     let mut fed = FeedResult {
         sliced: fresh(all_marks()),
         single: fresh(all_marks()),
         total: 0,
         goes_on: true,
     };
-    let mut turns = u64::MAX;
-    while turns > 0 {
-        fed = read_and_feed(fed, &mut grid, &mut other, &mut buffer, &mut out);
+    for _ in 0..u64::MAX {
+        fed = read_and_feed(input, out, fed, grid, other, buffer)?;
         if !fed.goes_on {
-            return;
+            break;
         }
-        turns -= 1;
     }
+    Ok(())
+}
+
+fn main(rt: HostRuntime) -> io::Result<()> {
+    let mut grid = [0u8; 20000];
+    let mut other = [0u8; 20000];
+    let mut buffer = [0u8; 65536];
+    let mut out = BufWriter::new(rt.alloc(), rt.stdout())?;
+    feed_all(
+        &mut rt.stdin(),
+        &mut out,
+        &mut grid,
+        &mut other,
+        &mut buffer,
+    )
 }

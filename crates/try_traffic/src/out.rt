@@ -1,95 +1,51 @@
-// Words and numbers on standard output, by way of a buffer `out` in which the first `used` bytes
-// wait: each function gives how many wait after it.
-ghost use Rattle.std.specs.Prelude.{◌≤◌, length};
+// Words and numbers on the output.
+ghost use Rattle.std.specs.Prelude.{◌++◌, OnOk, codes, decimal};
+ghost use Rattle.std.specs.Io.KnownBytes.{Appends};
 
-use libc::STDOUT_FILENO;
+use std::io;
+use std::io::Write;
 use text_signed_numbers::numbers::distance;
 
-// Writes what waits
-pub fn flush(out: &[u8], used: usize)
-    requires { used ≤ length out.now }
+// A word
+pub fn word<W: Write>(out: &mut W, w: &[u8]) -> io::Result<()>
+    ensures { OnOk result (Appends (W.contents out.old) (W.contents out.new) w.now) }
 {
-    io::write_all(STDOUT_FILENO, &out[..used]);
-}
-
-// Writes what waits where there is no room for `n` bytes more
-fn room(out: &[u8], used: usize, n: usize) -> usize
-    requires { used ≤ length out.now }
-    ensures { result ≤ length out.now }
-{
-    if n <= out.len() - used {
-        return used;
-    }
-    flush(out, used);
-    0
-}
-
-// A word; what is longer than the whole buffer, as no word is, is cut
-pub fn word(out: &mut [u8], used: usize, w: &[u8]) -> usize
-    requires { used ≤ length out.old }
-    ensures { result ≤ length out.old }
-{
-    let mut at = room(out, used, w.len());
-    let mut i = 0;
-    while i < w.len() {
-        if at == out.len() {
-            return at;
-        }
-        out[at] = w[i];
-        at += 1;
-        i += 1;
-    }
-    at
+    out.write_all(w)
 }
 
 // A number in decimal
-pub fn number(out: &mut [u8], used: usize, n: u64) -> usize
-    requires { used ≤ length out.old }
-    ensures { result ≤ length out.old }
+pub fn number<W: Write>(out: &mut W, n: u64) -> io::Result<()>
+    ensures { OnOk result (Appends (W.contents out.old) (W.contents out.new) (decimal n)) }
 {
-    let mut text = [0u8; 20];
-    let k = io::decimal(n, &mut text);
-    word(out, used, &text[..k])
+    write!(out, "{n}")
 }
 
 // A number, with a space before it
-pub fn spaced(out: &mut [u8], used: usize, n: u64) -> usize
-    requires { used ≤ length out.old }
-    ensures { result ≤ length out.old }
+pub fn spaced<W: Write>(out: &mut W, n: u64) -> io::Result<()>
+    ensures { OnOk result (Appends (W.contents out.old) (W.contents out.new) (codes " " ++ decimal n)) }
 {
-    let at = word(out, used, b" ");
-    number(out, at, n)
+    write!(out, " {n}")
 }
 
 // A minute, which may be below 0, with a space before it (Request 111)
-pub fn signed(out: &mut [u8], used: usize, n: i64) -> usize
-    requires { used ≤ length out.old }
-    ensures { result ≤ length out.old }
-{
+pub fn signed<W: Write>(out: &mut W, n: i64) -> io::Result<()> {
     if n < 0 {
-        let at = word(out, used, b" -");
-        return number(out, at, distance(n));
+        word(out, b" -")?;
+        return number(out, distance(n));
     }
-    spaced(out, used, distance(n))
+    spaced(out, distance(n))
 }
 
-fn byte(out: &mut [u8], used: usize, b: u8) -> usize
-    requires { used ≤ length out.old }
-    ensures { result ≤ length out.old }
+fn byte<W: Write>(out: &mut W, b: u8) -> io::Result<()>
+    ensures { OnOk result (Appends (W.contents out.old) (W.contents out.new) (codes " " ++ decimal b)) }
 {
-    spaced(out, used, b as u64)
+    spaced(out, b as u64)
 }
 
 // The numbers of a list, each with a space before it
-pub fn list(out: &mut [u8], used: usize, l: &[u8]) -> usize
-    requires { used ≤ length out.old }
-    ensures { result ≤ length out.old }
-{
-    let mut at = used;
-    let mut i = 0;
-    while i < l.len() {
-        at = byte(out, at, l[i]);
-        i += 1;
+pub fn list<W: Write>(out: &mut W, l: &[u8]) -> io::Result<()> {
+    for b in l {
+        byte(out, *b)?;
     }
-    at
+    Ok(())
 }

@@ -1,28 +1,22 @@
 // A stretch of the stream through the slice call, and through the byte call with a state and a grid
 // of its own.
-ghost use Rattle.std.specs.Prelude.{◌≤◌, length};
+ghost use Rattle.std.specs.Prelude.{◌≤◌, length, IfOk};
 
 use crate::held::part_lines;
-use crate::out::{flush, spaced, word};
+use crate::out::{spaced, word};
 use receiver_byte_call::calls::byte_call;
 use receiver_slice_call::calls::slice_call;
 use receiver_state::answer::number_of;
 use receiver_state::state::State;
+use std::io;
+use std::io::Write;
 
-// The byte call's state, and how many bytes wait in the output
-#[derive(Clone, Copy)]
-struct ByteCallsResult {
-    state: State,
-    used: usize,
-}
-
-// Both states after a slice call, how many bytes it took, and how many wait in the output
+// Both states after a slice call, and how many bytes it took
 #[derive(Clone, Copy)]
 struct BothResult {
     sliced: State,
     single: State,
     count: usize,
-    used: usize,
 }
 
 // Both states, how many bytes they have taken, and whether the input goes on
@@ -44,33 +38,25 @@ fn more(total: u64, count: usize) -> u64 {
 }
 
 // The line of an answer other than 0
-fn answer_line(out: &mut [u8], used: usize, call: &[u8], total: u64, answer: u8) -> usize
-    requires { used ≤ length out.old }
-    ensures { result ≤ length out.old }
-{
+fn answer_line<W: Write>(out: &mut W, call: &[u8], total: u64, answer: u8) -> io::Result<()> {
     if answer == 0 {
-        return used;
+        return Ok(());
     }
-    let named = word(out, used, call);
-    let counted = spaced(out, named, total);
-    let answered = spaced(out, counted, answer as u64);
-    word(out, answered, b"\n")
+    word(out, call)?;
+    spaced(out, total)?;
+    spaced(out, answer as u64)?;
+    word(out, b"\n")
 }
 
-// The bytes one by one
-fn by_bytes(
+// The bytes one by one; gives the byte call's state
+fn by_bytes<W: Write>(
+    out: &mut W,
     state: State,
     total: u64,
     grid: &mut [u8],
     bytes: &[u8],
-    out: &mut [u8],
-    used: usize,
-) -> ByteCallsResult
-    requires { used ≤ length out.old }
-    ensures { result.used ≤ length out.old }
-{
+) -> io::Result<State> {
     let mut s = state;
-    let mut waiting = used;
     let mut i = 0;
     while i < bytes.len() {
         let result = byte_call(s, grid, bytes[i]);
@@ -79,64 +65,55 @@ fn by_bytes(
         s = next;
         let answer = result.answer;
         let n = number_of(answer);
-        let lined = answer_line(out, waiting, b"byte", more(total, i), n);
-        waiting = part_lines(out, lined, answer, s, grid);
+        answer_line(out, b"byte", more(total, i), n)?;
+        part_lines(out, answer, s, grid)?;
     }
-    ByteCallsResult {
-        state: s,
-        used: waiting,
-    }
+    Ok(s)
 }
 
 // One slice call, after the byte call has had the bytes that it takes
-fn both(
+fn both<W: Write>(
+    out: &mut W,
     states: FeedResult,
     grid: &mut [u8],
     other: &mut [u8],
     bytes: &[u8],
-    out: &mut [u8],
-    used: usize,
-) -> BothResult
-    requires { used ≤ length out.old }
-    ensures { (result.used ≤ length out.old) × (result.count ≤ length bytes.now) }
+) -> io::Result<BothResult>
+    ensures { IfOk result (λ r. r.count ≤ length bytes.now) }
 {
     let before = states.sliced;
     let single = states.single;
     let result = slice_call(before, grid, bytes);
     let count = result.count;
-    let byte_calls = by_bytes(single, states.total, other, &bytes[..count], out, used);
-    let after = byte_calls.state;
+    let after = by_bytes(out, single, states.total, other, &bytes[..count])?;
     let sliced = result.state;
     let answer = result.answer;
     let n = number_of(answer);
     let total = more(states.total, count);
-    let lined = answer_line(out, byte_calls.used, b"slice", total, n);
-    let waiting = part_lines(out, lined, answer, sliced, grid);
-    BothResult {
+    answer_line(out, b"slice", total, n)?;
+    part_lines(out, answer, sliced, grid)?;
+    Ok(BothResult {
         sliced,
         single: after,
         count,
-        used: waiting,
-    }
+    })
 }
 
 // All bytes, by as many calls as that takes
-pub fn feed(
+pub fn feed<W: Write>(
+    out: &mut W,
     fed: FeedResult,
     grid: &mut [u8],
     other: &mut [u8],
     bytes: &[u8],
-    out: &mut [u8],
-) -> FeedResult {
+) -> io::Result<FeedResult> {
     let mut now = fed;
-    let mut used = 0;
     let mut at = 0;
     while at < bytes.len() {
-        let result = both(now, grid, other, &bytes[at..], out, used);
+        let result = both(out, now, grid, other, &bytes[at..])?;
         let sliced = result.sliced;
         let single = result.single;
         let count = result.count;
-        used = result.used;
         at += count;
         now = FeedResult {
             sliced,
@@ -145,10 +122,9 @@ pub fn feed(
             goes_on: 0 < count,
         };
         if count == 0 {
-            flush(out, used);
-            return now;
+            break;
         }
     }
-    flush(out, used);
-    now
+    out.flush()?;
+    Ok(now)
 }

@@ -1,8 +1,5 @@
 -- Both sums stay below 65,521; the measure is what is left of the grid. Assumes nothing.
-use Prim.Native.Nat.{◌<◌, ◌-◌}
-use native.Mathlib.Omega.{arith}
-use lib.ListN.{length}
-use borrow.Author.Rules.{rules}
+use Rattle.std.proofs.Common.{◌<◌, ◌-◌, length}
 use Rattle.try_calls.proofs.held.sum.Given as goal
 
 abbrev pub invariant-loop-i : goal.invariant-loop-i

@@ -1,12 +1,9 @@
 -- The grid keeps its length. The measure is what is left of the seven cuts. Assumes nothing.
-use mathlib.Core.Path.{◌≡◌}
-use Prim.Native.Nat.{◌-◌}
-use lib.ListN.{length}
-use borrow.Author.Rules.{rules}
+use Rattle.std.proofs.Common.{◌≡◌, ◌-◌, length}
 use Rattle.try_calls.proofs.runs.by_slices.Given as goal
 
 abbrev pub invariant-loop-k : goal.invariant-loop-k
-invariant-loop-k l = length l.grid ≡ length l.initial.grid
+invariant-loop-k g l = length l.grid ≡ length l.initial.grid
 
 abbrev pub decreases-loop-k : goal.decreases-loop-k
-decreases-loop-k l = 7 - l.k
+decreases-loop-k g l = 7 - l.k

@@ -1,7 +1,5 @@
 -- The run goes on past `at` and stays within the grid. Assumes nothing.
-use Prim.Native.Nat.{◌≤◌, ◌<◌, ◌-◌}
-use lib.ListN.{length}
-use borrow.Author.Rules.{rules}
+use Rattle.std.proofs.Common.{length, ◌≤◌, ◌<◌, ◌-◌}
 use Rattle.try_traffic.proofs.held.run_end.Given as goal
 
 abbrev pub invariant-loop-i : goal.invariant-loop-i
