@@ -1,7 +1,6 @@
 -- From turn to turn a group has 1 to 65,536 bytes, and the arguments at most as many. The measure is what is left of the arguments. Assumes nothing.
 use Prim.Native.Nat.{◌≤◌, ◌<◌, ◌-◌}
 use lib.ListN.{length}
-use borrow.Author.Rules.{rules}
 use Rattle.try_text.proofs.answers.results.Given as goal
 
 abbrev pub invariant-loop-at : goal.invariant-loop-at

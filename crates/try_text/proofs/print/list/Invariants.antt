@@ -1,6 +1,5 @@
 -- Nothing has to hold from turn to turn. The measure is what is left of the list. Assumes nothing.
 use Prim.Native.Nat.{◌-◌}
-use borrow.Author.Rules.{rules}
 use lib.ListN.{length}
 use Rattle.try_text.proofs.print.list.Given as goal
 
