@@ -1,8 +1,6 @@
 -- Grid and counts keep their lengths. The measure is what is left of the bytes. Assumes nothing.
-use mathlib.Core.Path.{◌≡◌}
-use Prim.Native.Nat.{◌-◌}
 use native.Mathlib.Omega.{arith}
-use lib.ListN.{length, length-set}
+use lib.ListN.{length-set}
 use borrow.Author.Rules.{rules}
 use Rattle.try_byte_call.proofs.feed.Goals as goal
 

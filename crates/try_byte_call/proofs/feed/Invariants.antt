@@ -1,9 +1,7 @@
 -- Grid and counts keep their lengths. The measure is what is left of the bytes. Assumes nothing.
 use mathlib.Core.Path.{◌≡◌}
 use Prim.Native.Nat.{◌-◌}
-use native.Mathlib.Omega.{arith}
-use lib.ListN.{length, length-set}
-use borrow.Author.Rules.{rules}
+use lib.ListN.{length}
 use Rattle.try_byte_call.proofs.feed.Given as goal
 
 abbrev pub invariant-loop-i : goal.invariant-loop-i

@@ -1,7 +1,6 @@
 -- Nothing has to hold from turn to turn. The measure is what is left of the counts. Assumes nothing.
 use Prim.Native.Nat.{◌-◌}
 use lib.ListN.{length}
-use borrow.Author.Rules.{rules}
 use Rattle.try_byte_call.proofs.print_counts.Given as goal
 
 abbrev pub invariant-loop-number : goal.invariant-loop-number
