@@ -4,7 +4,7 @@
 
 Each example of README becomes a crate of a copy of the repository, the second one with the line of crates.txt and
 the proofs that docs/EXAMPLE.md gives; then `rt check` proves them. Prints what rt says of each, and ends with status 1
-where one is not proved. It takes some minutes, since the copy is proved from nothing but what target/ has.
+where one is not proved. It takes some minutes, since the copy is proved from nothing but what crates/*/out has.
 """
 
 import re
@@ -37,7 +37,8 @@ def add(root):
     examples = re.findall(r"```rust\n(.*?)```", README, re.S)
     assert len(examples) == len(CRATES), f"README has {len(examples)} examples"
     for (name, listed), code in zip(CRATES.items(), examples):
-        write(root / "crates" / name / "src" / "main.rt", code if listed is None else code + "\nfn main() {}\n")
+        whole = code if listed is None else f"#![tactic(auto)]\n\n{code}\nfn main() {{}}\n"
+        write(root / "crates" / name / "src" / "main.rt", whole)
         lines.append(f"{name}: terminal {listed}" if listed else re.search(rf"`({name}: [^`]*)`", PAGE)[1])
     assert f"`{lines[1]}`" in README, f"README has another line for {lines[1]}"
     for path, text in re.findall(r"## `(\S+)`\n\n```\n(.*?)```", PAGE, re.S):
@@ -51,10 +52,13 @@ def main():
         copy = Path(folder, "copy")
         shutil.copytree(ROOT, copy, ignore=shutil.ignore_patterns(".git"), symlinks=True)
         add(copy)
-        run = subprocess.run(["rt", "check", *CRATES], cwd=copy, capture_output=True, text=True)
-        said = [line for line in run.stdout.splitlines() if re.match(rf"rt: ({'|'.join(CRATES)}|ok|FAILED)", line)]
-        print("\n".join(said if run.returncode == 0 else (run.stdout + run.stderr).splitlines()[-40:]))
-        sys.exit(run.returncode)
+        status = 0
+        for name in CRATES:
+            run = subprocess.run(["rt", "check"], cwd=copy / "crates" / name, capture_output=True, text=True)
+            proved = run.returncode == 0 and re.search(r"(?m)^logic=proved", run.stdout)
+            print(f"{name}: proved" if proved else "\n".join((run.stdout + run.stderr).splitlines()[-40:]))
+            status = status or int(not proved)
+        sys.exit(status)
 
 
 main()

@@ -3,7 +3,7 @@
     python3 tests/layers.py [--unused]
 
 A crate's name tells its layer: `general_laws` below 1, `text..` 1, `receiver_..` and `writer..` 2, `service_..` 3; above
-them stand `terminal` and the programs, `listen`, `decode`, `resend` and `try_..`. Of another crate, in the same
+them stand `terminal`, `program_streams` and the programs, `listen`, `decode`, `resend` and `try_..`. Of another crate, in the same
 layer too, sources, specs/ and proofs/ may cite
 
     Rattle.CRATE.specs..                         its definitions
@@ -26,7 +26,7 @@ from pathlib import Path
 
 ROOT = Path(__file__).resolve().parent.parent
 KIT = {"core", "std"}
-LAYERS = [r"general_laws", r"text(_\w+)?", r"receiver_\w+|writer(_\w+)?", r"service_\w+", r"terminal",
+LAYERS = [r"general_laws", r"text(_\w+)?", r"receiver_\w+|writer(_\w+)?", r"service_\w+", r"terminal|program_streams",
           r"listen|decode|resend|try_\w+"]
 TITLES = ["below layer 1", "layer 1", "layer 2", "layer 3", "above layer 3", "a program"]
 TERMINAL, PROGRAM = 4, 5

@@ -1,11 +1,11 @@
 -- Byte 23 of a start block alone looks at the digits that wait; and what it does with them. Assumes nothing.
 use mathlib.Core.Path.{◌≡◌}
 use mathlib.Core.Logic.{◌≢◌}
-use mathlib.Core.Bool.{true, false, ◌&&◌}
+use mathlib.Core.Bool.{true, ◌&&◌}
 use mathlib.Core.List.{List}
 use Prim.Native.Nat.{ℕ, ◌-◌, ◌≤◌, ◌<◌}
 use native.Mathlib.Omega.{arith}
-use lib.Dec.{eqb, leb, ltb}
+use lib.Dec.{leb, ltb}
 use borrow.Author.Tests.{ne_eqb, leb-true, ltb-true}
 use Rattle.general_laws.specs.Bytes.{is_in}
 use Rattle.text.specs.Kinds.{is_start_kind, block_length}

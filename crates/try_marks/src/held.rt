@@ -70,12 +70,7 @@ fn header_line<W: Write>(out: &mut W, part: u8, s: State) -> io::Result<()> {
 }
 
 // At answer 3 the receiver holds a part
-pub fn part_lines<W: Write>(
-    out: &mut W,
-    answer: Answer,
-    s: State,
-    grid: &[u8],
-) -> io::Result<()> {
+pub fn part_lines<W: Write>(out: &mut W, answer: Answer, s: State, grid: &[u8]) -> io::Result<()> {
     match answer {
         Answer::Complete(part) => {
             header_line(out, part, s)?;

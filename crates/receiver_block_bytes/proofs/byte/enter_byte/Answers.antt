@@ -1,6 +1,5 @@
 -- By the kind. Assumes nothing.
-use mathlib.Core.Path.{◌≡◌, sym, ◌∙◌}
-use borrow.Author.Rules.{rules}
+use mathlib.Core.Path.{sym, ◌∙◌}
 use Rattle.receiver_block_bytes.proofs.byte.enter_byte.Goals as goal
 
 pub enter_start-requires : goal.enter_start-requires

@@ -3,10 +3,9 @@ use mathlib.Core.Path.{◌≡◌, sym, ◌∙◌}
 use mathlib.Core.Bool.{Bool, true, false, ◌&&◌, false≢true}
 use mathlib.Core.List.{List}
 use Prim.Native.Nat.{ℕ, ◌+◌, ◌*◌, ◌-◌}
-use borrow.Author.Rules.{rules}
 use Rattle.text.specs.Kinds.{is_start_kind, is_end_kind, text_number}
 use Rattle.text.specs.declared.header.Header.{Header}
-use Rattle.general_laws.proofs.Tests.{and_split, never}
+use Rattle.general_laws.proofs.Tests.{and_split}
 use Rattle.receiver_spec.specs.State.{no_digits}
 use Rattle.receiver_spec.specs.Contents.{enter_modes}
 use Rattle.receiver_state.specs.declared.grid.Effect.TheVariants.{Keep, Enter}

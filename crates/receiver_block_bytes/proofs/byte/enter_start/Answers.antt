@@ -1,13 +1,12 @@
 -- Each way out is a case of the definition; byte 23 has its own. Assumes nothing.
-use mathlib.Core.Path.{◌≡◌, refl, sym, subst, ◌∙◌}
+use mathlib.Core.Path.{◌≡◌, sym, subst, ◌∙◌}
 use mathlib.Core.Logic.{◌≢◌}
 use mathlib.Core.Bool.{Bool, true, false}
 use mathlib.Core.List.{List}
 use Prim.Native.Nat.{ℕ, ◌-◌, ◌≤◌, ◌<◌}
 use native.Mathlib.Omega.{arith}
-use borrow.Author.Rules.{rules}
 use borrow.Author.Tests.{ne_eqb, le-leb, lt-leb}
-use Rattle.text.specs.Kinds.{is_start_kind, block_length}
+use Rattle.text.specs.Kinds.{is_start_kind}
 use Rattle.text.specs.declared.header.Header.{Header}
 use Rattle.text_laws.proofs.KindTable.{start_block_length}
 use Rattle.receiver_spec.specs.State.{no_digits}

@@ -1,10 +1,10 @@
 -- No digit; a time, whose minute enters; no time. Assumes nothing.
 use mathlib.Core.Path.{◌≡◌, refl, sym, ap, ◌∙◌}
 use mathlib.Core.Logic.{⊎_elim}
-use mathlib.Core.Bool.{Bool, true, false, ◌||◌, ◌&&◌, and-false}
+use mathlib.Core.Bool.{true, false, ◌||◌, and-false}
 use mathlib.Core.List.{List}
 use Prim.Native.Nat.{ℕ, ◌≤◌}
-use lib.Dec.{ltb, leb}
+use lib.Dec.{ltb}
 use native.Mathlib.Omega.{arith}
 use lib.IntN.{ℤ}
 use mir.Syntax.{w64}
@@ -13,7 +13,7 @@ use mir.Facts.{to_z-of_z}
 use borrow.Author.Rules.{rules}
 use borrow.Author.Tests.{le-leb, lt-leb, ltb-true, ltb-false}
 use Rattle.general_laws.specs.Bytes.{is_in}
-use Rattle.text_calendar_spec.specs.TimeDigits.{is_time, minute_in, time_check}
+use Rattle.text_calendar_spec.specs.TimeDigits.{time_check}
 use Rattle.text_calendar_spec.specs.declared.time.TimeCheck.TheVariants.{Minute, Invalid}
 use Rattle.text.specs.StartBlock.{is_digit}
 use Rattle.text.specs.declared.header.Header.{Header}
@@ -74,7 +74,7 @@ returns-then-b c = at_none _ _ _ _ (no_digit _ c.if-b.true)
 
 pub with_digit-requires : goal.with_digit-requires
 with_digit-requires c = record {
-      i_bound = omega arith;
-      i_value = last_no_stop;
-      le_b = (digit _ c.if-b.false).0;
-    }
+  i_bound = omega arith;
+  i_value = last_no_stop;
+  le_b = (digit _ c.if-b.false).0;
+}

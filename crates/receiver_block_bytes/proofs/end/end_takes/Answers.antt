@@ -1,5 +1,4 @@
 -- Each way out is a case of the definition. Assumes nothing.
-use borrow.Author.Rules.{rules}
 use borrow.Author.Tests.{le-leb, lt-leb}
 use Rattle.receiver_spec.specs.Contents.{end_takes}
 use Rattle.receiver_block_bytes.proofs.end.end_takes.Goals as goal

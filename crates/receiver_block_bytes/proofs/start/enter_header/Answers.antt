@@ -3,7 +3,6 @@ use mathlib.Core.Path.{◌≡◌}
 use mathlib.Core.Bool.{Bool}
 use Prim.Native.Nat.{ℕ, ◌/◌, ◌%◌}
 use native.Mathlib.Omega.{arith}
-use borrow.Author.Rules.{rules}
 use Rattle.text.specs.StartBlock.{no_echo_of, mode_of, clock_of}
 use Rattle.text.specs.declared.header.Header.{Header}
 use Rattle.receiver_spec.specs.State.{no_digits}

@@ -4,7 +4,6 @@ use mathlib.Core.Bool.{Bool, true, not}
 use Prim.Native.Nat.{ℕ}
 use native.Mathlib.Omega.{arith}
 use lib.Dec.{eqb, leb}
-use borrow.Author.Rules.{rules}
 use Rattle.text.specs.StartBlock.{mode_of, has_mode, is_clock_byte, is_radar_code}
 use Rattle.text.specs.declared.header.Header.{Header}
 use Rattle.receiver_spec.specs.State.{no_digits}

@@ -3,7 +3,6 @@ use mathlib.Core.Path.{◌≡◌}
 use mathlib.Core.List.{List, [], ◌∷◌}
 use Prim.Native.Nat.{ℕ, ◌<◌}
 use lib.ListN.{get_or}
-use borrow.Author.Rules.{rules}
 use Rattle.general_laws.proofs.Computed.{same_numbers}
 use Rattle.receiver_block_bytes.specs.Time.{digit_index}
 use Rattle.receiver_block_bytes.proofs.time.digit_index.Goals as goal

@@ -1,12 +1,12 @@
 -- The refusals as the definition has them; a payload byte by its law; else the decision is the step. Assumes nothing.
-use mathlib.Core.Path.{◌≡◌, refl, sym, ap, ◌∙◌, subst}
-use mathlib.Core.Bool.{true, not}
+use mathlib.Core.Path.{◌≡◌, refl, sym, ◌∙◌, subst}
+use mathlib.Core.Bool.{true}
 use mathlib.Core.List.{List, [], ◌∷◌}
 use Prim.Native.Nat.{ℕ, ◌+◌, ◌*◌, ◌-◌, ◌<◌}
 use native.Mathlib.Omega.{arith}
 use lib.ListN.{length, set}
 use borrow.Author.Rules.{rules}
-use borrow.Author.Tests.{eq-eqb, ne_eqb, not-false}
+use borrow.Author.Tests.{eq-eqb, ne_eqb}
 use Rattle.text.specs.Part.{grid_length}
 use Rattle.receiver_spec.specs.State.{is_possible}
 use Rattle.receiver_spec.specs.Receiver.{◌⊕◌}
@@ -51,9 +51,9 @@ entered s g b h long here m e =
 pub returns-then-grid-ne20000 : goal.returns-then-grid-ne20000
 unfolding returned byte_call reply_of seen_after
 returns-then-grid-ne20000 c = rw c.refused.ensures (record {
-      grid_after = simp (ne_eqb _ _ c.if-grid-ne20000.true);
-      seen_value = refl;
-    })
+  grid_after = simp (ne_eqb _ _ c.if-grid-ne20000.true);
+  seen_value = refl;
+})
 
 pub overflow_sub-grid : goal.overflow_sub-grid
 overflow_sub-grid c =
@@ -82,7 +82,7 @@ unfolding ◌⊕◌
 returns-then-is_payload_here c =
     let a = c.args in
     let e = entered a.state a.grid.now a.b (search rules) c.if-grid-ne20000.false (sym c.is_payload_here.ensures ∙ c.if-is_payload_here.true) c.pushed.ensures c.advanced_state.ensures in
-    record { grid_after = e.0; seen_value = e.1; }
+    record { grid_after = e.0; seen_value = e.1 }
 
 pub returns-then-not-is_possible : goal.returns-then-not-is_possible
 unfolding returned byte_call reply_of seen_after

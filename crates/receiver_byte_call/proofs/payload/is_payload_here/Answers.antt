@@ -1,6 +1,5 @@
 -- Each way out is a test of the definition that fails, or the last of its tests. Assumes nothing.
 use mathlib.Core.Bool.{and-false}
-use borrow.Author.Rules.{rules}
 use borrow.Author.Tests.{eq-eqb, ne_eqb, le-leb, lt-leb, lt-ltb, le-ltb}
 use Rattle.receiver_byte_call.specs.InPayload.{is_payload_here}
 use Rattle.receiver_byte_call.proofs.payload.is_payload_here.Goals as goal

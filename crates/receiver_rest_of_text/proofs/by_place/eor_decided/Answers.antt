@@ -1,5 +1,4 @@
 -- Each way out is a case of the definition. Assumes nothing.
-use borrow.Author.Rules.{rules}
 use borrow.Author.Tests.{eq-eqb, ne_eqb}
 use Rattle.receiver_spec.specs.Receiver.{◌⊕◌}
 use Rattle.receiver_rest_of_text.specs.RestOfText.{eor_decided}

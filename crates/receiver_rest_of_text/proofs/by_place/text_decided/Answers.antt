@@ -1,7 +1,6 @@
 -- Each way out is a case of the definition. Assumes nothing.
 use mathlib.Core.Path.{sym}
 use native.Mathlib.Omega.{arith}
-use borrow.Author.Rules.{rules}
 use borrow.Author.Tests.{eq-eqb, ne_eqb, lt-ltb, le-ltb}
 use Rattle.text_laws.proofs.KindTable.{block_most}
 use Rattle.receiver_rest_of_text.specs.RestOfText.{text_decided}

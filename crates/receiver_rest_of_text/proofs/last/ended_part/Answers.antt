@@ -1,6 +1,5 @@
 -- Each way out is a case of the definition. Assumes nothing.
 use mathlib.Core.Path.{sym, ◌∙◌}
-use borrow.Author.Rules.{rules}
 use Rattle.receiver_rest_of_text.specs.RestOfText.{ended_part}
 use Rattle.receiver_rest_of_text.proofs.last.ended_part.Goals as goal
 

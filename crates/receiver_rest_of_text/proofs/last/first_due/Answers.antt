@@ -1,6 +1,5 @@
 -- Each way out is a case of the definition. Assumes nothing.
 use mathlib.Core.Path.{sym}
-use borrow.Author.Rules.{rules}
 use borrow.Author.Tests.{eq-eqb, ne_eqb}
 use Rattle.receiver_spec.specs.Receiver.{first_due}
 use Rattle.receiver_rest_of_text.proofs.last.first_due.Goals as goal

@@ -1,6 +1,5 @@
 -- Each way out is a case of the definition. Assumes nothing.
 use mathlib.Core.Path.{sym, ◌∙◌}
-use borrow.Author.Rules.{rules}
 use borrow.Author.Tests.{eq-eqb, ne_eqb}
 use Rattle.receiver_rest_of_text.specs.RestOfText.{last_decided}
 use Rattle.receiver_rest_of_text.proofs.last.last_decided.Goals as goal

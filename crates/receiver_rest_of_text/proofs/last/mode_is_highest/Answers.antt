@@ -1,5 +1,4 @@
 -- The record of the definition. Assumes nothing.
-use borrow.Author.Rules.{rules}
 use Rattle.receiver_spec.specs.Receiver.{mode_is_highest}
 use Rattle.receiver_rest_of_text.proofs.last.mode_is_highest.Goals as goal
 

@@ -1,6 +1,5 @@
 -- Each way out is a case of the definition. Assumes nothing.
 use mathlib.Core.Path.{sym}
-use borrow.Author.Rules.{rules}
 use borrow.Author.Tests.{lt-ltb, le-ltb}
 use Rattle.receiver_spec.specs.Receiver.{next_due}
 use native.Mathlib.Numerals.{add-one}

@@ -1,5 +1,4 @@
 -- What `goes_on` makes, as the definition has it. Assumes nothing.
-use borrow.Author.Rules.{rules}
 use Rattle.receiver_rest_of_text.specs.RestOfText.{taken_text}
 use Rattle.receiver_rest_of_text.proofs.last.taken_text.Goals as goal
 

@@ -1,6 +1,5 @@
 -- Each case of the answer. Assumes nothing.
 use Rattle.receiver_byte_call.specs.Returned.{is_quiet}
-use borrow.Author.Rules.{rules}
 use Rattle.receiver_slice_call.proofs.calls.is_quiet.Goals as goal
 
 pub returns-in-Quiet : goal.returns-in-Quiet

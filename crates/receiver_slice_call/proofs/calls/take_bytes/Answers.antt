@@ -1,11 +1,9 @@
 -- The bytes so far, in stretches and one by one, are all answered 0. Assumes nothing.
 use mathlib.Core.Path.{◌≡◌, sym, ◌∙◌}
 use mathlib.Core.List.{List}
-use Prim.Native.Nat.{ℕ, ◌+◌, ◌-◌}
+use Prim.Native.Nat.{ℕ, ◌+◌}
 use native.Mathlib.Omega.{arith}
 use lib.ListN.{length, take, drop}
-use borrow.Author.Rules.{rules}
-use borrow.Author.Tests.{not-true, not-false}
 use Rattle.general_laws.proofs.Lists.{rest_is}
 use Rattle.receiver_state.specs.declared.state.State.{State}
 use Rattle.receiver_stretches.specs.declared.stretch.StretchResult.{StretchResult}

@@ -1,6 +1,5 @@
 -- The five rules of the definition, four of them from calls. Assumes nothing.
 use mathlib.Core.Bool.{and-true, and_assoc}
-use borrow.Author.Rules.{rules}
 use Rattle.general_laws.specs.Bytes.{all_of}
 use Rattle.receiver_spec.specs.State.{fits_part, kind_unread, kind_read, awaits_time, are_waiting, is_possible}
 use Rattle.receiver_state_ranges.specs.FrameFits.{frame_fits}

@@ -1,7 +1,6 @@
 -- Each way out is a case of the definition. Assumes nothing.
 use mathlib.Core.Path.{sym, ◌∙◌}
 use native.Mathlib.Omega.{arith}
-use borrow.Author.Rules.{rules}
 use borrow.Author.Tests.{eq-eqb, ne_eqb}
 use Rattle.receiver_step.specs.Decide.{decide}
 use Rattle.receiver_step.proofs.decide.decide.Goals as goal

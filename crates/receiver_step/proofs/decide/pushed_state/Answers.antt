@@ -1,5 +1,4 @@
 -- The record of the definition. Assumes nothing.
-use borrow.Author.Rules.{rules}
 use Rattle.receiver_step.specs.Decide.{pushed_state}
 use Rattle.receiver_step.proofs.decide.pushed_state.Goals as goal
 

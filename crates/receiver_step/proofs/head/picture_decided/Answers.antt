@@ -1,6 +1,5 @@
 -- Each way out is a case of the definition. Assumes nothing.
 use mathlib.Core.Path.{sym, ◌∙◌}
-use borrow.Author.Rules.{rules}
 use Rattle.receiver_step.specs.Decide.{picture_decided}
 use Rattle.receiver_step.proofs.head.picture_decided.Goals as goal
 

@@ -1,5 +1,4 @@
 -- Each way out is a case of the definition. Assumes nothing.
-use borrow.Author.Rules.{rules}
 use borrow.Author.Tests.{eq-eqb, ne_eqb}
 use Rattle.receiver_step.specs.Decide.{opened_text}
 use Rattle.receiver_step.proofs.opening.opened_text.Goals as goal

@@ -1,5 +1,4 @@
 -- The four tests of the definition, three of them from calls. Assumes nothing.
-use borrow.Author.Rules.{rules}
 use Rattle.receiver_stretch_payload.specs.Ahead.{is_in_payload}
 use Rattle.receiver_stretch_payload.proofs.ahead.is_in_payload.Goals as goal
 

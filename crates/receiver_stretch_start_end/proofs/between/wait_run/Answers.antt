@@ -3,7 +3,6 @@ use mathlib.Core.Path.{◌≡◌, sym, ◌∙◌}
 use mathlib.Core.Bool.{true, false}
 use mathlib.Core.List.{List}
 use Prim.Native.Nat.{ℕ}
-use borrow.Author.Rules.{rules}
 use Rattle.receiver_state.specs.declared.state.State.{State}
 use Rattle.receiver_stretches.specs.declared.stretch.StretchResult.{StretchResult}
 use Rattle.receiver_byte_call.proofs.Laws.{advanced_first}

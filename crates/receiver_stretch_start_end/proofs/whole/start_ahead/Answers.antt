@@ -2,7 +2,6 @@
 use mathlib.Core.Path.{sym}
 use native.Mathlib.Omega.{arith}
 use lib.Seq.{length-take-le}
-use borrow.Author.Rules.{rules}
 use Rattle.receiver_stretch_start_end.proofs.WholeTexts.{none_passed, no_start, start_on, in_block}
 use Rattle.receiver_stretch_start_end.proofs.whole.start_ahead.Goals as goal
 

@@ -1,16 +1,7 @@
 -- The stretch is where the part's start text and the number of the text put it. Assumes nothing.
 use mathlib.Core.Path.{sym, ◌∙◌}
 use native.Mathlib.Omega.{arith}
-use borrow.Author.Rules.{rules}
-use borrow.Author.Tests.{not-true, not-false}
-use Rattle.service_stored_part.proofs.PayloadPlaces.{PayloadPlace, long, none, payload_place, damaged}
-use Rattle.service_stored_part.proofs.payload.text_payload.Reads as reads
-use Rattle.service_stored_part.proofs.payload.text_payload.Lts as lts
-use Rattle.service_stored_part.proofs.whole.is_undamaged_part.Reads as is-undamaged-part-reads
-use Rattle.text_lengths.proofs.block.data_block_length.Reads as data-block-length-reads
-use Rattle.text_lengths.proofs.part.data_texts.Reads as data-texts-reads
-use Rattle.text_kinds.proofs.table.part_of_kind.Reads as part-of-kind-reads
-use Rattle.text_status.proofs.status.no_echo_of.Reads as no-echo-of-reads
+use Rattle.service_stored_part.proofs.PayloadPlaces.{long, none, payload_place, damaged}
 use Rattle.service_stored_part.proofs.payload.text_payload.Goals as goal
 
 pub returns-then-not-is_undamaged_part : goal.returns-then-not-is_undamaged_part
@@ -27,29 +18,43 @@ returns-then-k-last c =
     none _ (sym c.is_undamaged_part.ensures ∙ c.if-not-is_undamaged_part.false) c.part_of_kind-number.ensures c.no_echo_of.ensures c.data_texts-last.ensures _ c.if-k-last.true
 
 -- behind the last test, the text is there
-has_place : (c : lts.After-data-block-length (is-undamaged-part-reads.Asked, is-undamaged-part-reads.Learnt, part-of-kind-reads.Asked, part-of-kind-reads.Learnt, no-echo-of-reads.Asked, no-echo-of-reads.Learnt, data-texts-reads.Asked, data-texts-reads.Learnt, data-block-length-reads.Asked, data-block-length-reads.Learnt) reads.Pre reads.Post)
-    → PayloadPlace c.args.part.now c.data_block_length.result c.args.k
-has_place c =
-    payload_place _ (sym c.is_undamaged_part.ensures ∙ c.if-not-is_undamaged_part.false) c.part_of_kind-number.ensures c.no_echo_of.ensures
-    c.data_texts-last.ensures c.data_block_length.ensures c.args.k c.if-k-last.false
-
 pub returns : goal.returns
-returns c = (has_place c).given
+returns c =
+    (payload_place _ (sym c.is_undamaged_part.ensures ∙ c.if-not-is_undamaged_part.false) c.part_of_kind-number.ensures c.no_echo_of.ensures
+    c.data_texts-last.ensures c.data_block_length.ensures c.args.k c.if-k-last.false).given
 
 pub overflow_sub-size : goal.overflow_sub-size
-overflow_sub-size c = omega (arith, has_place c)
+overflow_sub-size c =
+    let place = payload_place _ (sym c.is_undamaged_part.ensures ∙ c.if-not-is_undamaged_part.false) c.part_of_kind-number.ensures c.no_echo_of.ensures
+    c.data_texts-last.ensures c.data_block_length.ensures c.args.k c.if-k-last.false in
+    omega (arith, place)
 
 pub overflow_sub-from : goal.overflow_sub-from
-overflow_sub-from c = omega (arith, has_place c)
+overflow_sub-from c =
+    let place = payload_place _ (sym c.is_undamaged_part.ensures ∙ c.if-not-is_undamaged_part.false) c.part_of_kind-number.ensures c.no_echo_of.ensures
+    c.data_texts-last.ensures c.data_block_length.ensures c.args.k c.if-k-last.false in
+    omega (arith, place)
 
 pub overflow_mul-from : goal.overflow_mul-from
-overflow_mul-from c = omega (arith, has_place c)
+overflow_mul-from c =
+    let place = payload_place _ (sym c.is_undamaged_part.ensures ∙ c.if-not-is_undamaged_part.false) c.part_of_kind-number.ensures c.no_echo_of.ensures
+    c.data_texts-last.ensures c.data_block_length.ensures c.args.k c.if-k-last.false in
+    omega (arith, place)
 
 pub overflow_add-from-2 : goal.overflow_add-from-2
-overflow_add-from-2 c = omega (arith, has_place c)
+overflow_add-from-2 c =
+    let place = payload_place _ (sym c.is_undamaged_part.ensures ∙ c.if-not-is_undamaged_part.false) c.part_of_kind-number.ensures c.no_echo_of.ensures
+    c.data_texts-last.ensures c.data_block_length.ensures c.args.k c.if-k-last.false in
+    omega (arith, place)
 
 pub overflow_add-result : goal.overflow_add-result
-overflow_add-result c = omega (arith, has_place c)
+overflow_add-result c =
+    let place = payload_place _ (sym c.is_undamaged_part.ensures ∙ c.if-not-is_undamaged_part.false) c.part_of_kind-number.ensures c.no_echo_of.ensures
+    c.data_texts-last.ensures c.data_block_length.ensures c.args.k c.if-k-last.false in
+    omega (arith, place)
 
 pub slice_bounds-result-end-2 : goal.slice_bounds-result-end-2
-slice_bounds-result-end-2 c = omega (arith, has_place c)
+slice_bounds-result-end-2 c =
+    let place = payload_place _ (sym c.is_undamaged_part.ensures ∙ c.if-not-is_undamaged_part.false) c.part_of_kind-number.ensures c.no_echo_of.ensures
+    c.data_texts-last.ensures c.data_block_length.ensures c.args.k c.if-k-last.false in
+    omega (arith, place)

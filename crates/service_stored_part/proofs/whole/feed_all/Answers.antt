@@ -1,10 +1,8 @@
 -- Each call takes a byte at least, and state, grid and last answer are those of the bytes so far. Assumes nothing.
 use mathlib.Core.Path.{sym, ap, ◌∙◌}
-use Prim.Native.Nat.{◌-◌}
 use native.Mathlib.Omega.{arith}
 use lib.ListN.{length}
-use borrow.Author.Rules.{rules}
-use Rattle.service_stored_part.proofs.Feeding.{FedUpTo, begins, long, some, within, goes_on, ended}
+use Rattle.service_stored_part.proofs.Feeding.{begins, long, some, within, goes_on, ended}
 use Rattle.service_stored_part.proofs.whole.feed_all.Goals as goal
 
 pub loop-at-init : goal.loop-at-init
@@ -25,10 +23,12 @@ loop-at-smaller c =
 
 pub loop-at-preserved : goal.loop-at-preserved
 loop-at-preserved c =
-    rw c.number_of_lem.ensures (goes_on c.loop-at.invariant c.loop-at-test.true c.slice_call-result.result _ c.slice_call-result.ensures.grid_after)
+    rw c.number_of-answer.ensures (goes_on c.loop-at.invariant c.loop-at-test.true c.slice_call-result.result _ c.slice_call-result.ensures.grid_after)
 
 pub shape_of-grid : goal.shape_of-grid
 shape_of-grid c = long c.loop-at.invariant ∙ ap length (sym c.requires)
 
 pub returns : goal.returns
-returns c = ended c.loop-at.invariant c.loop-at-test.false
+returns c =
+    let e = ended c.loop-at.invariant c.loop-at-test.false in
+    record { state_value = e.0; answer_value = e.1 }

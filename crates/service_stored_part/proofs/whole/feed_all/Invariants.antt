@@ -1,10 +1,7 @@
 -- Each call takes a byte at least, and state, grid and last answer are those of the bytes so far. Assumes nothing.
-use mathlib.Core.Path.{sym, ap, ◌∙◌}
 use Prim.Native.Nat.{◌-◌}
-use native.Mathlib.Omega.{arith}
 use lib.ListN.{length}
-use borrow.Author.Rules.{rules}
-use Rattle.service_stored_part.proofs.Feeding.{FedUpTo, begins, long, some, within, goes_on, ended}
+use Rattle.service_stored_part.proofs.Feeding.{FedUpTo}
 use Rattle.service_stored_part.proofs.whole.feed_all.Given as goal
 
 abbrev pub invariant-loop-at : goal.invariant-loop-at

@@ -1,6 +1,5 @@
 -- The contract of fresh, at all twenty marks. Assumes nothing.
 use mathlib.Core.Path.{ap, ◌∙◌}
-use borrow.Author.Rules.{rules}
 use Rattle.receiver_spec.specs.State as Spec
 use Rattle.service_stored_part.proofs.whole.fresh_for_all.Goals as goal
 

@@ -4,7 +4,6 @@ use mathlib.Core.Bool.{◌&&◌}
 use native.Mathlib.Omega.{arith}
 use lib.Dec.{eqb}
 use lib.ListN.{length}
-use borrow.Author.Rules.{rules}
 use Rattle.text.specs.Kinds.{part_length}
 use Rattle.text.specs.Part.{zeros}
 use Rattle.receiver_spec.specs.State.{State}

@@ -1,5 +1,4 @@
 -- Each way out is a case of the definition. Assumes nothing.
-use borrow.Author.Rules.{rules}
 use borrow.Author.Tests.{le-leb, lt-leb}
 use Rattle.text_code_words.specs.Words.{byte_of}
 use Rattle.text_code_words.proofs.words.byte_of.Goals as goal

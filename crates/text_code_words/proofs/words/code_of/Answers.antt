@@ -1,5 +1,4 @@
 -- Each way out is a case of the definition. Assumes nothing.
-use borrow.Author.Rules.{rules}
 use borrow.Author.Tests.{eq-eqb, ne_eqb}
 use Rattle.text_code_words.specs.Words.{code_of}
 use Rattle.text_code_words.proofs.words.code_of.Goals as goal

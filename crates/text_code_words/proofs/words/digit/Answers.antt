@@ -1,5 +1,4 @@
 -- Each way out is a case of the definition. Assumes nothing.
-use borrow.Author.Rules.{rules}
 use borrow.Author.Tests.{leb-true}
 use Rattle.general_laws.proofs.Tests.{and_split}
 use Rattle.text_code_words.specs.Words.{digit_of}

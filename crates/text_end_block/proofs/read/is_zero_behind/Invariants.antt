@@ -1,13 +1,10 @@
 -- What is found so far, with the bytes from i on, says what all the bytes say. Assumes nothing.
-use mathlib.Core.Path.{◌≡◌, refl, sym, ap, ◌∙◌}
-use mathlib.Core.Bool.{◌&&◌, and-true, and_assoc}
-use Prim.Native.Nat.{suc, ◌-◌}
-use native.Mathlib.Numerals.{add-one}
-use native.Mathlib.Omega.{arith}
+use mathlib.Core.Path.{◌≡◌}
+use mathlib.Core.Bool.{◌&&◌}
+use Prim.Native.Nat.{◌-◌}
 use lib.Dec.{eqb}
-use lib.ListN.{length, drop, drop_of_length-le}
-use lib.Seq.{drop-cons}
-use Rattle.general_laws.specs.Bytes.{◌!◌, every}
+use lib.ListN.{length, drop}
+use Rattle.general_laws.specs.Bytes.{every}
 use Rattle.text_end_block.proofs.read.is_zero_behind.Given as goal
 
 abbrev pub invariant-loop-i : goal.invariant-loop-i

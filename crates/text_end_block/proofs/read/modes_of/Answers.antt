@@ -1,5 +1,4 @@
 -- The eight modes of the definition, from the calls. Assumes nothing.
-use borrow.Author.Rules.{rules}
 use Rattle.text.specs.EndBlock.{modes_of}
 use Rattle.text_end_block.proofs.read.modes_of.Goals as goal
 

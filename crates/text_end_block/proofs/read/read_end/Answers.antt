@@ -1,11 +1,7 @@
 -- Each way out follows the rules in their order: the first that fails breaks the block. Assumes nothing.
 use mathlib.Core.Path.{sym, ◌∙◌}
-use mathlib.Core.Bool.{◌&&◌}
-use lib.Dec.{eqb}
-use borrow.Author.Tests.{ne_eqb, not-true, not-false}
-use borrow.Author.Rules.{rules}
-use Rattle.general_laws.specs.Bytes.{◌!◌, all_of}
-use Rattle.text.specs.Text.{FD}
+use borrow.Author.Tests.{ne_eqb}
+use Rattle.general_laws.specs.Bytes.{all_of}
 use Rattle.text.specs.EndBlock.{is_end_block}
 use Rattle.text_end_block.specs.Read.{end_read}
 use Rattle.text_end_block.proofs.Rules.{end_rules}

@@ -1,7 +1,6 @@
 -- The two rules of the definition, from the calls. Assumes nothing.
 use mathlib.Core.Path.{ap₂}
 use mathlib.Core.Bool.{◌&&◌}
-use borrow.Author.Rules.{rules}
 use Rattle.text.specs.WriterInput.{is_writer_input}
 use Rattle.text_headers.proofs.writer_input.is_writer_input.Goals as goal
 

@@ -1,5 +1,4 @@
 -- The record of the definition. Assumes nothing.
-use borrow.Author.Rules.{rules}
 use Rattle.text.specs.Kinds.{is_start_kind}
 use Rattle.text_kinds.proofs.table.is_start_kind.Goals as goal
 

@@ -1,12 +1,8 @@
 -- The loop has found the right mode at each place below i; i runs to eight. Assumes nothing.
-use mathlib.Core.Path.{◌≡◌, sym, ◌∙◌}
+use mathlib.Core.Path.{sym, ◌∙◌}
 use mathlib.Core.Bool.{true}
-use Prim.Native.Nat.{ℕ, ◌-◌, ◌<◌, ◌≤◌}
 use native.Mathlib.Omega.{arith}
-use borrow.Author.Rules.{rules}
 use borrow.Author.Count.{below_more}
-use borrow.Author.Tests.{not-true, not-false}
-use Rattle.general_laws.specs.Bytes.{◌!◌}
 use Rattle.text.specs.WriterInput.{is_mode_for, are_modes_for}
 use Rattle.general_laws.proofs.Places.{places_true, places_false}
 use Rattle.text_radars.proofs.places.are_modes_for.Goals as goal

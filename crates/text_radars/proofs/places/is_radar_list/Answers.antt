@@ -1,13 +1,9 @@
 -- The loop has found that each radar after the first and below i follows the one before it; i runs to eight. Assumes nothing.
-use mathlib.Core.Path.{◌≡◌, sym, ◌∙◌}
+use mathlib.Core.Path.{sym, ◌∙◌}
 use mathlib.Core.Bool.{true}
-use Prim.Native.Nat.{ℕ, ◌-◌, ◌<◌, ◌≤◌}
 use native.Mathlib.Omega.{arith}
 use borrow.Author.Rules.{rules}
 use borrow.Author.Count.{below_more}
-use borrow.Author.Tests.{not-true, not-false}
-use Rattle.general_laws.specs.Bytes.{◌!◌}
-use Rattle.text.specs.StartBlock.{follows}
 use Rattle.general_laws.proofs.Places.{places_true, places_false}
 use Rattle.text.proofs.Laws.{radars_by_place}
 use Rattle.text_radars.proofs.places.is_radar_list.Goals as goal

@@ -1,5 +1,4 @@
 -- The test is the definition, with the radar code's test from the call. Assumes nothing.
-use borrow.Author.Rules.{rules}
 use Rattle.text.specs.StartBlock.{follows}
 use Rattle.text_radars.proofs.places.radar_follows.Goals as goal
 

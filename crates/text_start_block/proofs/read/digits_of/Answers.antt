@@ -1,7 +1,6 @@
 -- Each digit is `0` or more, so the differences are the numbers of the definition. Assumes nothing.
 use mathlib.Core.Path.{refl}
 use native.Mathlib.Omega.{arith}
-use borrow.Author.Rules.{rules}
 use Rattle.text.specs.StartBlock.{digits_of}
 use Rattle.text_start_block.proofs.Rules.{digit_least}
 use Rattle.text_start_block.proofs.read.digits_of.Goals as goal

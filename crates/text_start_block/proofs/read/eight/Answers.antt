@@ -1,6 +1,5 @@
 -- A list of eight bytes is the table of its places. Assumes nothing.
 use mathlib.Core.Path.{sym}
-use borrow.Author.Rules.{rules}
 use Rattle.general_laws.proofs.Places.{by_place}
 use Rattle.text_start_block.proofs.read.eight.Goals as goal
 

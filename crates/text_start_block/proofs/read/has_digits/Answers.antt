@@ -1,6 +1,5 @@
 -- The twelve tests of the definition, from the calls. Assumes nothing.
 use mathlib.Core.Path.{◌∙◌}
-use borrow.Author.Rules.{rules}
 use Rattle.general_laws.specs.Bytes.{every, all_of}
 use Rattle.text_start_block.proofs.Rules.{joined_twelve}
 use Rattle.text_start_block.proofs.read.has_digits.Goals as goal

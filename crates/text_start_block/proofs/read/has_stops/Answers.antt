@@ -1,6 +1,5 @@
 -- The four tests of the definition. Assumes nothing.
 use mathlib.Core.Bool.{and-true, and_assoc}
-use borrow.Author.Rules.{rules}
 use Rattle.general_laws.specs.Bytes.{every}
 use Rattle.text_start_block.proofs.read.has_stops.Goals as goal
 

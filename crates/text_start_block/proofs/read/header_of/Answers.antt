@@ -1,6 +1,5 @@
 -- The record of the definition, field by field from the calls. Assumes nothing.
 use mathlib.Core.Path.{◌∙◌}
-use borrow.Author.Rules.{rules}
 use mir.Facts.{to_z-of_z}
 use Rattle.text.specs.StartBlock.{header_of}
 use Rattle.text_start_block.proofs.read.header_of.Goals as goal

@@ -2,7 +2,6 @@
 use mathlib.Core.Path.{◌∙◌}
 use mathlib.Core.Bool.{not}
 use lib.Dec.{eqb, leb}
-use borrow.Author.Rules.{rules}
 use Rattle.general_laws.specs.Bytes.{◌!◌, all_of}
 use Rattle.text.specs.Text.{FD}
 use Rattle.text.specs.StartBlock.{has_mode, is_clock_byte}

@@ -66,10 +66,10 @@ returns-in_default c =
     simp (
       c.broken-in_default.ensures,
       rules_left
-        c.args.block.now
-        c.if-block-ne32.false
-        (sym c.is_start_front.ensures ∙ c.if-not-is_start_front.false)
-        (sym (ap₂ ◌&&◌ c.has_digits.ensures c.has_stops.ensures) ∙ c.if-not-has_digits-has_stops.false),
+          c.args.block.now
+          c.if-block-ne32.false
+          (sym c.is_start_front.ensures ∙ c.if-not-is_start_front.false)
+          (sym (ap₂ ◌&&◌ c.has_digits.ensures c.has_stops.ensures) ∙ c.if-not-has_digits-has_stops.false),
       checked_invalid _ (sym (c.time_check-time.ensures ∙ ap time_check c.digits_of.ensures) ∙ c.in_default.is),
     )
 
@@ -79,8 +79,8 @@ header_of-header-requires c =
     let f : SFits w64 c.in-Minute.minute = search rules in record {
       block_len = c.if-block-ne32.false;
       minute_value =
-        to_z-of_z f
-        ∙ (checked_minute _ _ (sym (c.time_check-time.ensures ∙ ap time_check c.digits_of.ensures) ∙ c.in-Minute.is)).1;
+          to_z-of_z f
+          ∙ (checked_minute _ _ (sym (c.time_check-time.ensures ∙ ap time_check c.digits_of.ensures) ∙ c.in-Minute.is)).1;
     }
 
 pub returns-then-not-is_radar_list : goal.returns-then-not-is_radar_list
@@ -89,10 +89,10 @@ returns-then-not-is_radar_list c =
     simp (
       c.broken-then-not-is_radar_list.ensures,
       rules_left
-        c.args.block.now
-        c.if-block-ne32.false
-        (sym c.is_start_front.ensures ∙ c.if-not-is_start_front.false)
-        (sym (ap₂ ◌&&◌ c.has_digits.ensures c.has_stops.ensures) ∙ c.if-not-has_digits-has_stops.false),
+          c.args.block.now
+          c.if-block-ne32.false
+          (sym c.is_start_front.ensures ∙ c.if-not-is_start_front.false)
+          (sym (ap₂ ◌&&◌ c.has_digits.ensures c.has_stops.ensures) ∙ c.if-not-has_digits-has_stops.false),
       (checked_minute _ _ (sym (c.time_check-time.ensures ∙ ap time_check c.digits_of.ensures) ∙ c.in-Minute.is)).0,
       ap (λ (h : Header). is_radar_list h.radars) (sym c.header_of-header.ensures) ∙ sym c.is_radar_list.ensures ∙ c.if-not-is_radar_list.true,
     )
@@ -102,10 +102,10 @@ unfolding start_read header_of
 returns c =
     simp (
       rules_left
-        c.args.block.now
-        c.if-block-ne32.false
-        (sym c.is_start_front.ensures ∙ c.if-not-is_start_front.false)
-        (sym (ap₂ ◌&&◌ c.has_digits.ensures c.has_stops.ensures) ∙ c.if-not-has_digits-has_stops.false),
+          c.args.block.now
+          c.if-block-ne32.false
+          (sym c.is_start_front.ensures ∙ c.if-not-is_start_front.false)
+          (sym (ap₂ ◌&&◌ c.has_digits.ensures c.has_stops.ensures) ∙ c.if-not-has_digits-has_stops.false),
       (checked_minute _ _ (sym (c.time_check-time.ensures ∙ ap time_check c.digits_of.ensures) ∙ c.in-Minute.is)).0,
       ap (λ (h : Header). is_radar_list h.radars) (sym c.header_of-header.ensures) ∙ sym c.is_radar_list.ensures ∙ c.if-not-is_radar_list.false,
       c.header_of-header.ensures,

@@ -3,7 +3,6 @@ use mathlib.Core.Path.{ap₂}
 use mathlib.Core.Bool.{◌&&◌}
 use lib.Dec.{eqb}
 use lib.ListN.{length}
-use borrow.Author.Rules.{rules}
 use Rattle.writer_spec.specs.Written.{is_payload}
 use Rattle.writer.proofs.data.is_payload.Goals as goal
 

@@ -1,22 +1,11 @@
 -- The data texts that are left, put from `at` on, give what all of them give from 40 on. Assumes nothing.
-use mathlib.Core.Path.{◌≡◌, refl, sym, ap, ap₂, ◌∙◌}
-use mathlib.Core.Bool.{false}
+use mathlib.Core.Path.{◌≡◌}
 use mathlib.Core.List.{List}
-use Prim.Native.Nat.{ℕ, suc, ◌+◌, ◌*◌, ◌-◌, ◌≤◌, ◌<◌}
-use native.Mathlib.Nat.{suc-mul}
-use native.Mathlib.Numerals.{add-one}
-use native.Mathlib.Omega.{arith}
-use lib.ListN.{length, take, drop, length-drop}
-use lib.Seq.{sets, length-sets, length-take-le, drop-drop}
-use borrow.Author.Rules.{rules}
-use borrow.Author.Rules.{part_to_end}
-use Rattle.text.specs.Kinds.{kind_of, data_block_length, data_texts, payload_length}
-use Rattle.text.specs.Text.{text_of}
+use Prim.Native.Nat.{ℕ, suc, ◌+◌, ◌*◌, ◌-◌, ◌≤◌}
+use lib.ListN.{length, drop}
+use lib.Seq.{sets}
 use Rattle.text.specs.Part.{texts_of}
-use Rattle.general_laws.proofs.Lists.{width}
-use Rattle.text_laws.proofs.KindTable.{data_least, few_texts}
-use Rattle.writer_spec.specs.Written.{data_blocks, block_of}
-use Rattle.writer.proofs.PutTexts.{sets_lent, texts_on}
+use Rattle.writer_spec.specs.Written.{data_blocks}
 use Rattle.writer.proofs.data.write_datas.Given as goal
 
 -- how many data texts are left, with room for them and a share of the payload for each

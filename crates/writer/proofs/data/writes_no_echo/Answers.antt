@@ -2,7 +2,6 @@
 use mathlib.Core.Path.{ap}
 use mathlib.Core.Bool.{◌&&◌, not}
 use lib.Dec.{eqb}
-use borrow.Author.Rules.{rules}
 use Rattle.writer_spec.specs.Written.{writes_no_echo}
 use Rattle.writer.proofs.data.writes_no_echo.Goals as goal
 

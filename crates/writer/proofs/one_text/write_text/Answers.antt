@@ -3,7 +3,6 @@ use mathlib.Core.Path.{ap, ◌∙◌}
 use mathlib.Core.List.{[], ◌∷◌}
 use Prim.Native.Nat.{◌+◌, ◌-◌}
 use lib.ListN.{length, take, drop}
-use borrow.Author.Rules.{rules}
 use Rattle.general_laws.specs.Bytes.{put_at}
 use Rattle.text.specs.Text.{check_byte}
 use Rattle.writer.proofs.PutTexts.{text_put}

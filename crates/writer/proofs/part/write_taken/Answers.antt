@@ -1,6 +1,6 @@
 -- The start text, the data texts and the end text stand one behind the other; with NO ECHO there are no data texts. Assumes nothing.
 use mathlib.Core.Path.{◌≡◌, sym, ap, ap₂, ◌∙◌}
-use mathlib.Core.Bool.{Bool, true, false, not}
+use mathlib.Core.Bool.{Bool, true, false}
 use mathlib.Core.List.{List, [], ◌∷◌, ◌++◌}
 use Prim.Native.Nat.{ℕ, ◌+◌, ◌-◌, ◌≤◌}
 use native.Mathlib.Omega.{arith}
@@ -8,7 +8,7 @@ use lib.Dec.{leb}
 use lib.ListN.{length, length-drop}
 use lib.Seq.{sets, length-sets}
 use borrow.Author.Rules.{rules}
-use borrow.Author.Tests.{leb-true, not-true, not-false}
+use borrow.Author.Tests.{leb-true}
 use borrow.Author.Rules.{part_to_end}
 use Rattle.text_calendar_spec.specs.Minutes.{is_minute}
 use Rattle.text.specs.Text.{text_of}
