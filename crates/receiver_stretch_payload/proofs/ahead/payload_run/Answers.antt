@@ -8,6 +8,7 @@ use Rattle.text.specs.Kinds.{text_number, block_length}
 use Rattle.text.specs.DataBlock.{is_payload_byte}
 use Rattle.text_laws.proofs.KindTable.{block_most}
 use Rattle.receiver_spec.specs.Receiver.{◌⊕◌}
+use Rattle.receiver_byte_call.specs.InPayload.{advanced_state}
 use Rattle.receiver_byte_call.proofs.Laws.{advanced_first}
 use Rattle.receiver_stretches.specs.Run.{passed, run}
 use Rattle.receiver_stretches.proofs.Laws.{passed_first}
