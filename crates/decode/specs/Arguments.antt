@@ -1,5 +1,5 @@
 -- Request 101: which pictures the arguments mark. Assumes nothing.
-use Rattle.std.specs.Prelude.{ℕ, Bool, true, cond, ◌&&◌, leb}
+use Rattle.std.specs.Prelude.{ℕ, true, cond, ◌&&◌, leb}
 use Rattle.std.specs.Int.Bits.{bit_or}
 use Rattle.text.specs.Pictures.{is_picture_code}
 use Rattle.receiver_spec.specs.Marks.{all_marks, no_marks}

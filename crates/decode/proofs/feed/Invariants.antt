@@ -1,10 +1,7 @@
 -- Each turn takes a byte at least and stays within the bytes; grid and counts keep their lengths. Assumes nothing.
 use mathlib.Core.Path.{◌≡◌}
 use Prim.Native.Nat.{◌≤◌, ◌-◌}
-use native.Mathlib.Omega.{arith}
 use lib.ListN.{length}
-use borrow.Author.Rules.{rules}
-use Rattle.receiver_slice_call.proofs.Laws.{count_behind}
 use Rattle.decode.proofs.feed.Given as goal
 
 abbrev pub invariant-loop-at : goal.invariant-loop-at

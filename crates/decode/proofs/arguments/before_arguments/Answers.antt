@@ -1,5 +1,4 @@
 -- By whether there is an argument. Assumes nothing.
-use borrow.Author.Rules.{rules}
 use borrow.Author.Tests.{le-leb, lt-leb}
 use Rattle.decode.specs.Arguments.{before_arguments}
 use Rattle.decode.proofs.arguments.before_arguments.Goals as goal

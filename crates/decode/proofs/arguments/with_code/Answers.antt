@@ -1,7 +1,6 @@
 -- The record of the definition. Assumes nothing.
 use mathlib.Core.Bool.{◌&&◌}
 use lib.Bits.{bit_or}
-use borrow.Author.Rules.{rules}
 use Rattle.decode.specs.Arguments.{with_code}
 use Rattle.decode.proofs.arguments.with_code.Goals as goal
 

@@ -1,13 +1,8 @@
 -- Those counted, and those among the bytes to come, are all. Assumes nothing.
 use mathlib.Core.Path.{◌≡◌}
 use Prim.Native.Nat.{◌+◌, ◌-◌, ◌≤◌}
-use native.Mathlib.Nat.{zero-add}
-use native.Mathlib.Omega.{arith}
 use lib.ListN.{length, drop}
-use borrow.Author.Rules.{rules}
 use Rattle.decode.specs.Count.{count_of}
-use Rattle.general_laws.proofs.Tests.{bool_byte_less}
-use Rattle.decode.proofs.Counting.{count_on, count_all}
 use Rattle.decode.proofs.counts.bytes_at.Given as goal
 
 abbrev pub invariant-loop-i : goal.invariant-loop-i

@@ -1,6 +1,5 @@
 -- Level 14 is the last; below it, those at or above the next level are taken off. Assumes nothing.
 use mathlib.Core.Path.{ap, ◌∙◌}
-use borrow.Author.Rules.{rules}
 use Rattle.service_levels.specs.Returned.{answer_of}
 use Rattle.decode.proofs.AtLevel.{at_top, at_less}
 use Rattle.decode.proofs.counts.meshes_at.Goals as goal

@@ -1,6 +1,5 @@
 -- Nothing has to hold from turn to turn. The measure is what is left of the codes to `F1`. Assumes nothing.
 use Prim.Native.Nat.{◌-◌}
-use borrow.Author.Rules.{rules}
 use Rattle.decode.proofs.heading.put_all_marked.Given as goal
 
 abbrev pub invariant-loop-code : goal.invariant-loop-code

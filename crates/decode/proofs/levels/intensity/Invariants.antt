@@ -1,6 +1,5 @@
 -- Nothing has to hold from turn to turn. The measure is what is left of the fifteen. Assumes nothing.
 use Prim.Native.Nat.{◌-◌}
-use borrow.Author.Rules.{rules}
 use Rattle.decode.proofs.levels.intensity.Given as goal
 
 abbrev pub invariant-loop-level : goal.invariant-loop-level

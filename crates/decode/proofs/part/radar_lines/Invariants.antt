@@ -1,6 +1,5 @@
 -- Nothing has to hold from turn to turn. The measure is what is left of the eight. Assumes nothing.
 use Prim.Native.Nat.{◌-◌}
-use borrow.Author.Rules.{rules}
 use Rattle.decode.proofs.part.radar_lines.Given as goal
 
 abbrev pub invariant-loop-i : goal.invariant-loop-i

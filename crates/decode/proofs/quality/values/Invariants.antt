@@ -1,6 +1,5 @@
 -- Nothing has to hold from turn to turn. The measure is what is left of the values to `80`. Assumes nothing.
 use Prim.Native.Nat.{◌-◌}
-use borrow.Author.Rules.{rules}
 use Rattle.decode.proofs.quality.values.Given as goal
 
 abbrev pub invariant-loop-value : goal.invariant-loop-value

@@ -1,6 +1,5 @@
 -- Nothing has to hold from turn to turn. The measure is what is left of the numbers to 22. Assumes nothing.
 use Prim.Native.Nat.{◌-◌}
-use borrow.Author.Rules.{rules}
 use Rattle.decode.proofs.totals.answer_lines.Given as goal
 
 abbrev pub invariant-loop-number : goal.invariant-loop-number
