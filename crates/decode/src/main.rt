@@ -47,7 +47,7 @@ use receiver_slice_call::calls::slice_call;
 use receiver_state::answer::{Answer, number_of};
 use receiver_state::state::{State, fresh};
 use std::io;
-use std::io::{BufWriter, Read, Write};
+use std::io::{Read, Write};
 
 // The receiver after some bytes, how many they were, and whether to go on
 #[derive(Clone, Copy)]
@@ -187,6 +187,6 @@ fn main(rt: HostRuntime) -> io::Result<()> {
     if !asked.right {
         return Ok(());
     }
-    let mut out = BufWriter::new(rt.alloc(), rt.stdout())?;
+    let mut out = rt.stdout();
     decode_input(&mut rt.stdin(), &mut out, asked.marks)
 }

@@ -10,7 +10,7 @@ use receiver_slice_call::calls::slice_call;
 use receiver_state::answer::number_of;
 use receiver_state::state::{State, fresh};
 use std::io;
-use std::io::{BufWriter, Read, Write};
+use std::io::{Read, Write};
 
 // The receiver after some bytes, how many they were, and whether to go on
 #[derive(Clone, Copy)]
@@ -124,6 +124,6 @@ fn feed_all<R: Read, W: Write>(
 fn main(rt: HostRuntime) -> io::Result<()> {
     let mut grid = [0u8; 20000];
     let mut buffer = [0u8; 65536];
-    let mut out = BufWriter::new(rt.alloc(), rt.stdout())?;
+    let mut out = rt.stdout();
     feed_all(&mut rt.stdin(), &mut grid, &mut buffer, &mut out)
 }

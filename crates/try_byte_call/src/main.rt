@@ -10,7 +10,7 @@ use receiver_marks::marks::all_marks;
 use receiver_state::answer::number_of;
 use receiver_state::state::{State, fresh};
 use std::io;
-use std::io::{BufWriter, Read, Write};
+use std::io::{Read, Write};
 
 // The receiver after some bytes, and whether the input goes on
 #[derive(Clone, Copy)]
@@ -120,7 +120,7 @@ fn main(rt: HostRuntime) -> io::Result<()> {
     let mut buffer = [0u8; 65536];
     let mut counts = [0u64; 23];
     feed_all(&mut rt.stdin(), &mut grid, &mut buffer, &mut counts)?;
-    let mut out = BufWriter::new(rt.alloc(), rt.stdout())?;
+    let mut out = rt.stdout();
     print_counts(&mut out, &counts)?;
     out.flush()
 }

@@ -20,7 +20,7 @@ use receiver_marks::marks::all_marks;
 use receiver_state::answer::number_of;
 use receiver_state::state::{State, fresh};
 use std::io;
-use std::io::{BufWriter, Read, Write};
+use std::io::{Read, Write};
 
 // The receiver and the figures after some bytes
 #[derive(Clone, Copy)]
@@ -82,7 +82,7 @@ fn feed_all<R: Read, W: Write>(
 fn main(rt: HostRuntime) -> io::Result<()> {
     let mut grid = [0u8; 20000];
     let mut buffer = [0u8; 65536];
-    let mut out = BufWriter::new(rt.alloc(), rt.stdout())?;
+    let mut out = rt.stdout();
     let fed = feed_all(&mut rt.stdin(), &mut out, &mut grid, &mut buffer)?;
     last_line(&mut out, fed.figures)?;
     out.flush()

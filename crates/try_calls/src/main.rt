@@ -34,7 +34,7 @@ use program_streams::read_full;
 use receiver_marks::marks::all_marks;
 use receiver_state::state::{State, fresh};
 use std::io;
-use std::io::{BufWriter, Write};
+use std::io::Write;
 
 fn two_bytes(high: u8, low: u8) -> usize {
     high as usize * 256 + low as usize
@@ -76,7 +76,7 @@ fn parts<W: Write>(out: &mut W, grid: &mut [u8], input: &[u8]) -> io::Result<Sta
 fn main(rt: HostRuntime) -> io::Result<()> {
     let mut buffer = [0u8; 4096];
     let n = read_full(&mut rt.stdin(), &mut buffer)?;
-    let mut out = BufWriter::new(rt.alloc(), rt.stdout())?;
+    let mut out = rt.stdout();
     let mut grid = [0u8; 20000];
     let last = parts(&mut out, &mut grid, &buffer[..n])?;
     refusals::states(&mut out, last, &mut grid)?;

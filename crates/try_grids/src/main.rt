@@ -10,7 +10,7 @@ use service_levels::meshes::meshes_from;
 use service_levels::result::MeshResult;
 use service_overlay::grids::{OverlayResult, overlay};
 use std::io;
-use std::io::{BufWriter, Read, Write};
+use std::io::{Read, Write};
 
 fn number_of(found: MeshResult) -> u64 {
     match found {
@@ -84,7 +84,7 @@ fn grids<R: Read, W: Write>(input: &mut R, out: &mut W) -> io::Result<()> {
 }
 
 fn main(rt: HostRuntime) -> io::Result<()> {
-    let mut out = BufWriter::new(rt.alloc(), rt.stdout())?;
+    let mut out = rt.stdout();
     grids(&mut rt.stdin(), &mut out)?;
     out.flush()
 }

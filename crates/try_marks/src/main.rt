@@ -32,7 +32,7 @@ use crate::runs::{by_bytes, by_slices};
 use program_streams::read_full;
 use receiver_state::state::{State, count_marks, fresh};
 use std::io;
-use std::io::{BufWriter, Write};
+use std::io::Write;
 
 fn four_bytes(first: u8, second: u8, third: u8, fourth: u8) -> u32 {
     let high = first as u32 * 256 + second as u32;
@@ -102,6 +102,6 @@ fn of_input<W: Write>(out: &mut W, input: &[u8]) -> io::Result<()> {
 fn main(rt: HostRuntime) -> io::Result<()> {
     let mut buffer = [0u8; 65536];
     let n = read_full(&mut rt.stdin(), &mut buffer)?;
-    let mut out = BufWriter::new(rt.alloc(), rt.stdout())?;
+    let mut out = rt.stdout();
     of_input(&mut out, &buffer[..n])
 }

@@ -38,10 +38,10 @@ mod samples;
 mod sums;
 
 use std::io;
-use std::io::{BufWriter, Write};
+use std::io::Write;
 
 fn main(rt: HostRuntime) -> io::Result<()> {
-    let mut out = BufWriter::new(rt.alloc(), rt.stdout())?;
+    let mut out = rt.stdout();
     levels::lines(&mut out)?;
     levels::dry_lines(&mut out)?;
     refusals::lines(&mut out)?;

@@ -26,7 +26,7 @@ use crate::answers::line;
 use crate::arguments::{byte_at, two_at};
 use program_streams::read_full;
 use std::io;
-use std::io::{BufWriter, Read, Write};
+use std::io::{Read, Write};
 
 // Reads the arguments that the head announces, as many as there are, and answers
 fn request<R: Read, W: Write>(
@@ -59,7 +59,7 @@ fn requests<R: Read, W: Write>(input: &mut R, out: &mut W, space: &mut [u8]) -> 
 
 fn main(rt: HostRuntime) -> io::Result<()> {
     let mut space = [0u8; 65536];
-    let mut out = BufWriter::new(rt.alloc(), rt.stdout())?;
+    let mut out = rt.stdout();
     requests(&mut rt.stdin(), &mut out, &mut space)?;
     out.flush()
 }

@@ -20,7 +20,7 @@ use crate::runs::FeedResult;
 use receiver_marks::marks::all_marks;
 use receiver_state::state::fresh;
 use std::io;
-use std::io::{BufWriter, Read, Write};
+use std::io::{Read, Write};
 
 // Reads once, as much as there is, and gives it to the receiver
 fn read_and_feed<R: Read, W: Write>(
@@ -73,7 +73,7 @@ fn main(rt: HostRuntime) -> io::Result<()> {
     let mut grid = [0u8; 20000];
     let mut other = [0u8; 20000];
     let mut buffer = [0u8; 65536];
-    let mut out = BufWriter::new(rt.alloc(), rt.stdout())?;
+    let mut out = rt.stdout();
     feed_all(
         &mut rt.stdin(),
         &mut out,

@@ -27,7 +27,7 @@ use crate::arguments::two_at;
 use crate::call::call;
 use program_streams::read_full;
 use std::io;
-use std::io::{BufWriter, Read, Write};
+use std::io::{Read, Write};
 
 // Reads the payload that the head announces, as much as there is, and makes the call
 fn request<R: Read, W: Write>(
@@ -60,7 +60,7 @@ fn requests<R: Read, W: Write>(input: &mut R, out: &mut W, space: &mut [u8]) -> 
 
 fn main(rt: HostRuntime) -> io::Result<()> {
     let mut space = [0u8; 65536];
-    let mut out = BufWriter::new(rt.alloc(), rt.stdout())?;
+    let mut out = rt.stdout();
     requests(&mut rt.stdin(), &mut out, &mut space)?;
     out.flush()
 }
