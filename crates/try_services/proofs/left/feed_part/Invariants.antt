@@ -1,12 +1,9 @@
 -- The grid keeps its length. The measure is what is left of the bytes. Assumes nothing.
-use mathlib.Core.Path.{◌≡◌}
-use Prim.Native.Nat.{◌-◌}
-use lib.ListN.{length}
-use borrow.Author.Rules.{rules}
+use Rattle.std.proofs.Common.{◌≡◌, ◌-◌, length}
 use Rattle.try_services.proofs.left.feed_part.Given as goal
 
 abbrev pub invariant-loop-i : goal.invariant-loop-i
-invariant-loop-i l = length l.grid ≡ length l.initial.grid
+invariant-loop-i g l = length l.grid ≡ length l.initial.grid
 
 abbrev pub decreases-loop-i : goal.decreases-loop-i
-decreases-loop-i l = length l.bytes - l.i
+decreases-loop-i g l = length l.bytes - l.i

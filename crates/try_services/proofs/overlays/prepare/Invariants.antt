@@ -1,8 +1,5 @@
 -- The grid keeps its length. The measure is what is left of it. Assumes nothing.
-use mathlib.Core.Path.{◌≡◌}
-use Prim.Native.Nat.{◌-◌}
-use lib.ListN.{length}
-use borrow.Author.Rules.{rules}
+use Rattle.std.proofs.Common.{◌≡◌, ◌-◌, length}
 use Rattle.try_services.proofs.overlays.prepare.Given as goal
 
 abbrev pub invariant-loop-i : goal.invariant-loop-i

@@ -1,8 +1,5 @@
 -- Both sums stay below 65,521. The measure is what is left of the bytes. Assumes nothing.
-use Prim.Native.Nat.{◌<◌, ◌-◌}
-use native.Mathlib.Omega.{arith}
-use lib.ListN.{length}
-use borrow.Author.Rules.{rules}
+use Rattle.std.proofs.Common.{◌<◌, ◌-◌, length}
 use Rattle.try_services.proofs.sums.adler.Given as goal
 
 abbrev pub invariant-loop-i : goal.invariant-loop-i
