@@ -1,7 +1,6 @@
 -- Nothing has to hold from turn to turn. The measure is what is left of the list. Assumes nothing.
 use Prim.Native.Nat.{◌-◌}
 use lib.ListN.{length}
-use borrow.Author.Rules.{rules}
 use Rattle.try_writer.proofs.print.list.Given as goal
 
 abbrev pub invariant-loop-i : goal.invariant-loop-i

@@ -1,10 +1,7 @@
 -- Each turn takes a byte at least and no more than are left; the grid keeps its length. Assumes nothing.
 use mathlib.Core.Path.{◌≡◌}
 use Prim.Native.Nat.{◌≤◌, ◌-◌}
-use native.Mathlib.Omega.{arith}
 use lib.ListN.{length}
-use borrow.Author.Rules.{rules}
-use Rattle.receiver_slice_call.proofs.Laws.{count_behind}
 use Rattle.try_writer.proofs.read_back.read_back.Given as goal
 
 abbrev pub invariant-loop-at : goal.invariant-loop-at

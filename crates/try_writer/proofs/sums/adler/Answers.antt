@@ -1,8 +1,5 @@
 -- Both sums stay below 65,521; the measure is what is left of the bytes. Assumes nothing.
-use Prim.Native.Nat.{◌<◌, ◌-◌}
 use native.Mathlib.Omega.{arith}
-use lib.ListN.{length}
-use borrow.Author.Rules.{rules}
 use Rattle.try_writer.proofs.sums.adler.Goals as goal
 
 pub overflow_cast-low : goal.overflow_cast-low

@@ -1,8 +1,6 @@
 -- Both sums stay below 65,521; the measure is what is left of the bytes. Assumes nothing.
 use Prim.Native.Nat.{◌<◌, ◌-◌}
-use native.Mathlib.Omega.{arith}
 use lib.ListN.{length}
-use borrow.Author.Rules.{rules}
 use Rattle.try_writer.proofs.sums.adler.Given as goal
 
 abbrev pub invariant-loop-i : goal.invariant-loop-i
