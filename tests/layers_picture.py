@@ -19,7 +19,7 @@ LEFT, RIGHT = 178, WIDTH - EDGE - 8  # boxes and arrows stand between these, tit
 WRITER = WIDTH - EDGE - 168  # from here on stands the writer, beside the receiver
 BOX, GAP, PAD = 28, 38, 16  # heights: of a box, between rows, of a band above and below its boxes
 TITLES = {0: ["below layer 1:", "general laws"], 1: ["layer 1: texts"], 2: ["layer 2: receiver"], 3: ["layer 3: services"],
-          TERMINAL: ["the one crate", "to name: terminal"]}
+          TERMINAL: ["the crate to name;", "reading for programs"]}
 FILLS = ["#f2f2f2", "#ecf5ec", "#e8f0fa", "#fbf3e2", "#faecec", "#f2f2f2"]
 NOTE = "An arrow goes from a crate to one that it uses, unless it uses that one through another as well."
 HEAD = """<svg xmlns="http://www.w3.org/2000/svg" viewBox="0 0 WIDTH HEIGHT" font-family="Helvetica, Arial, sans-serif" role="img">
