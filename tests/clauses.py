@@ -16,7 +16,7 @@ from pathlib import Path
 
 ROOT = Path(__file__).resolve().parent.parent
 PAGE = (ROOT / "docs" / "CLAUSES.md").read_text(encoding="utf-8")
-CODE = r"(?:pub(?:\(crate\))? )?(?:fn|struct|enum|const) (\w+)"
+CODE = r" *(?:pub(?:\(crate\))? )?(?:fn|struct|enum|const) (\w+)"
 SPEC = r"(?:abbrev|unfoldable) pub (\S+) :|pub (?:record|data) (\w+)"
 
 
@@ -28,11 +28,12 @@ def declared(pattern, mark, item):
             found = re.match(item, line)
             if found:
                 yield path.relative_to(ROOT), next(filter(None, found.groups())), comment
-            if line.startswith(mark):
+            marked = line.lstrip().startswith(mark)
+            if marked:
                 comment = (comment + " " if commenting else "") + line.lstrip("-/ ")
             elif not line:
                 comment = ""
-            commenting = line.startswith(mark)
+            commenting = marked
 
 
 CLAUSE = re.compile(r"4\(1\)\(1-[12]\)(?:\([abcd]\))?(?:\([アイウエ]\))?|4\(2\)(?:\([abcd]\))?(?:\([アイウエ]\))?|5\(3\)\(3-[12]\)|5\([12]\)"

@@ -19,10 +19,10 @@ README = (ROOT / "README.md").read_text(encoding="utf-8")
 PAGE = (ROOT / "docs" / "EXAMPLE.md").read_text(encoding="utf-8")
 # In README's order: the crate, and what it lists beside `terminal`; the whole program's line stands on the page
 CRATES = {
-    "example_byte": "text receiver_state receiver_byte_call",
+    "example_byte": "refusals text receiver_state receiver_byte_call",
     "my_terminal": None,
-    "example_writer": "text_calendar_spec text writer",
-    "example_services": "text receiver_state service_levels service_overlay service_bytes_left",
+    "example_writer": "refusals text_calendar_spec text",
+    "example_services": "refusals text receiver_state",
 }
 
 

@@ -3,13 +3,13 @@
     python3 tests/layers.py [--unused]
 
 A crate's name tells its layer: `general_laws` below 1, `text..` 1, `receiver_..` and `writer..` 2, `service_..` 3; above
-them stand `terminal`, `program_streams` and the programs, `listen`, `decode`, `resend` and `try_..`. Of another crate, in the same
+them stand `terminal`, `program_..` and the programs, `listen`, `decode`, `resend` and `try_..`. Of another crate, in the same
 layer too, sources, specs/ and proofs/ may cite
 
     Rattle.CRATE.specs..                         its definitions
     Rattle.CRATE.proofs.Laws..                   its laws; of a crate `.._laws` any module of proofs/
     Rattle.CRATE.proofs.MODULE.FUNCTION.Reads    the contract of a public function; `.Statement` as well
-    CRATE::MODULE::ITEM                          in sources: a public function, struct, enum or const
+    CRATE::MODULE::ITEM                          in sources: a public function, struct, enum, trait or const
 
 A crate cites none of a layer above its own, and no program; definitions cite no proof. crates.txt lists each folder of crates/, and for each
 crate those that it cites; it has no cycle and goes up by layers. The kit's libraries are of no layer.
@@ -26,7 +26,7 @@ from pathlib import Path
 
 ROOT = Path(__file__).resolve().parent.parent
 KIT = {"core", "std"}
-LAYERS = [r"general_laws", r"text(_\w+)?", r"receiver_\w+|writer(_\w+)?", r"service_\w+", r"terminal|program_streams",
+LAYERS = [r"general_laws|refusals", r"text(_\w+)?", r"receiver_\w+|writer(_\w+)?", r"service_\w+", r"terminal|program_\w+",
           r"listen|decode|resend|try_\w+"]
 TITLES = ["below layer 1", "layer 1", "layer 2", "layer 3", "above layer 3", "a program"]
 TERMINAL, PROGRAM = 4, 5
@@ -101,7 +101,7 @@ def functions(crate):
 @cache
 def items(crate):
     """The paths of a crate's public items, with those that it passes on."""
-    item = r"\bpub\s+(?:(?:const|unsafe|extern)\s+)*(?:fn|struct|enum|const)\s+(\w+)"
+    item = r"\bpub\s+(?:(?:const|unsafe|extern)\s+)*(?:fn|struct|enum|trait|const)\s+(\w+)"
     passed = r"\bpub\s+use\s[^;]*?(\w+)\s*;"
     return {(*module, name) for module, code in sources(crate)
             for name in re.findall(item, code) + re.findall(passed, code)}
@@ -135,14 +135,18 @@ def antt_paths(code):
             yield start, crate, ".".join([f"Rattle.{crate}", *whole]), is_for_others(crate, whole)
 
 
-# The same of Rust's paths. One that begins with what the source declares or brings in begins with no crate
+# The same of Rust's paths. One that begins with what the source declares or brings in begins with no crate. A function's
+# `tactic` attribute names definitions and laws as Rust does
 def rust_paths(code):
-    own = {"crate", "self", "super", *re.findall(r"\b(?:mod|struct|enum)\s+(\w+)", code),
+    own = {"crate", "self", "super", *re.findall(r"\b(?:mod|struct|enum|trait)\s+(\w+)", code),
            *re.findall(r"\buse\s+\w+::[^;]*?(\w+)\s*;", code)}
     for m in re.finditer(r"((?<!ghost )\buse\s+)?(?<![\w:.])(?:::)?(\w+)((?:::\w+)*)", code):
         path = tuple(m[3].split("::")[1:])
         if m[2] not in own and (m[1] or path and m[2] in folders()):
-            yield m.start(2), m[2], m[2] + m[3], any(path[:i] in items(m[2]) for i in range(1, len(path) + 1))
+            allowed = any(path[:i] in items(m[2]) for i in range(1, len(path) + 1))
+            if path[:1] in (("specs",), ("proofs",)):
+                allowed = is_for_others(m[2], [*path])
+            yield m.start(2), m[2], m[2] + m[3], allowed
 
 
 @cache

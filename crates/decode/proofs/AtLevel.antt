@@ -6,25 +6,18 @@ use Prim.Native.Nat.{ℕ, zero, suc, ◌+◌, ◌-◌, ◌/◌, ◌%◌, ◌≤�
 use native.Mathlib.Nat.{add-zero}
 use native.Mathlib.Omega.{arith}
 use lib.Dec.{eqb, leb, ltb}
+use Rattle.std.proofs.lemmas.Bool.Decides.{nat_tests}
 use lib.ListN.{length, get_or-eq_default}
-use borrow.Author.Tests.{eqb-true, eqb-false, leb-true, leb-false, ltb-true, ltb-false, le-leb, lt-leb}
+use borrow.Author.Tests.{leb-true, ltb-true, ltb-false, le-leb}
 use Rattle.general_laws.specs.Bytes.{◌!◌}
 use Rattle.text.specs.DataBlock.{odd_level, even_level, is_intensity_byte}
 use Rattle.general_laws.proofs.Tests.{by_test, and_split, every_at}
 use Rattle.service_levels.specs.Meshes.{ServiceAnswer, value, refused, level_of, count_to, meshes, is_grid, has_no_level_15, is_level, meshes_from}
-use Rattle.service_levels.specs.Returned.{answer_of}
-use Rattle.service_levels.specs.declared.result.MeshResult.{MeshResult}
-use Rattle.service_levels.specs.declared.result.MeshResult.TheVariants.{Value, Refused}
-use Rattle.decode.specs.Count.{count_at, meshes_at, less_of}
+use Rattle.decode.specs.Count.{count_at, meshes_at}
 
 -- a level is at or above another if it is that one, or at or above the next
 next : (level x : ℕ) → cond (leb level x) 1 0 ≡ cond (eqb x level) 1 0 + cond (leb (level + 1) x) 1 0
-next level x =
-    by_test (eqb x level)
-    (λ e. let same = eqb-true x level e in rw (e, le-leb level x (omega arith), lt-leb (level + 1) x (omega arith)))
-    (λ e. by_test (leb level x)
-    (λ l. rw (e, l, le-leb (level + 1) x (omega (arith, eqb-false x level e, leb-true level x l))))
-    (λ l. rw (e, l, lt-leb (level + 1) x (omega (arith, leb-false level x l)))))
+next level x = grind (arith, nat_tests)
 
 pub split : (grid : List ℕ) (level n : ℕ) → count_to grid level n ≡ count_at grid level n + count_to grid (level + 1) n
 unfolding count_to count_at
@@ -48,7 +41,7 @@ module _ (grid : List ℕ) (read : has_no_level_15 grid ≡ true) where
   none : (n : ℕ) → count_to grid 15 n ≡ 0
   unfolding count_to
   none zero = refl
-  none (suc n) = rw (lt-leb 15 (level_of grid (suc n)) (omega (arith, low (suc n))), none n)
+  none (suc n) = let below = low (suc n) in grind (arith, nat_tests, none n)
 
   pub last : (n : ℕ) → count_to grid 14 n ≡ count_at grid 14 n
   last n = split grid 14 n ∙ ap (λ k. count_at grid 14 n + k) (none n) ∙ add-zero _
@@ -86,27 +79,20 @@ module _ (grid : List ℕ) (level : ℕ) where
       pick_same (is_grid grid) (has_no_level_15 grid) (is_level level) _ _
       (λ r l. let e : level ≡ 14 = omega (arith, leb-true level 14 l) in rw e (last grid r meshes))
 
-  refused_here : (row : ℕ) → refused row ≡ meshes_from grid level → refused row ≡ meshes_at grid level
+  pub refused_here : (row : ℕ) → refused row ≡ meshes_from grid level → refused row ≡ meshes_at grid level
   unfolding meshes_from meshes_at
   refused_here row h = sym (pick_refused (is_grid grid) (has_no_level_15 grid) (is_level level) _ _ row (sym h))
 
-  refused_next : (row : ℕ) → level < 14 → refused row ≡ meshes_from grid (level + 1) → refused row ≡ meshes_at grid level
+  pub refused_next : (row : ℕ) → level < 14 → refused row ≡ meshes_from grid (level + 1) → refused row ≡ meshes_at grid level
   unfolding meshes_from meshes_at
   refused_next row l h =
       rw (le-leb level 14 (omega arith))
       (sym (pick_refused (is_grid grid) (has_no_level_15 grid) true _ _ row (sym (rw (le-leb (level + 1) 14 (omega arith)) at h))))
 
-  both : (n m : ℕ) → value n ≡ meshes_from grid level → value m ≡ meshes_from grid (level + 1) → value (n - m) ≡ meshes_at grid level
+  pub less : (n m : ℕ) → value n ≡ meshes_from grid level → value m ≡ meshes_from grid (level + 1) → value (n - m) ≡ meshes_at grid level
   unfolding meshes_from meshes_at
-  both n m h k =
+  less n m h k =
       let here = pick_value (is_grid grid) (has_no_level_15 grid) (is_level level) _ (count_at grid level meshes) n (sym h) in
       let above = pick_value (is_grid grid) (has_no_level_15 grid) (is_level (level + 1)) _ 0 m (sym k) in
-      let less : n - m ≡ count_at grid level meshes = omega (arith, here.0, above.0, split grid level meshes) in
-      ap value less ∙ sym here.1
-
-  pub at_less : (from above : MeshResult) → level < 14 → answer_of from ≡ meshes_from grid level → answer_of above ≡ meshes_from grid (level + 1)
-      → answer_of (less_of from above) ≡ meshes_at grid level
-  unfolding answer_of
-  at_less (Value n) (Value m) l h k = both n m h k
-  at_less (Value n) (Refused row) l h k = refused_next row l k
-  at_less (Refused row) above l h k = refused_here row h
+      let rest : n - m ≡ count_at grid level meshes = omega (arith, here.0, above.0, split grid level meshes) in
+      ap value rest ∙ sym here.1

@@ -1,13 +1,10 @@
 -- What the program counts: meshes at one level. Assumes nothing.
-use Rattle.std.specs.Prelude.{ℕ, zero, suc, ◌+◌, ◌-◌, cond, not, List, [], ◌∷◌, eqb}
+use Rattle.std.specs.Prelude.{ℕ, zero, suc, ◌+◌, cond, not, List, count_by, eqb}
 use Rattle.service_levels.specs.Meshes.{ServiceAnswer, value, refused, level_of, meshes, is_grid, has_no_level_15, is_level}
-use Rattle.service_levels.specs.declared.result.MeshResult.{MeshResult}
-use Rattle.service_levels.specs.declared.result.MeshResult.TheVariants.{Value, Refused}
 
 -- How many bytes equal a value; in echo top and quality each byte is a mesh. Notice 49, 4(1)(1-2)(d)(ウ), 4(2)(d)(ウ)
-unfoldable pub count_of : List ℕ → ℕ → ℕ
-count_of [] x = 0
-count_of (b ∷ bytes) x = cond (eqb b x) 1 0 + count_of bytes x
+abbrev pub count_of : List ℕ → ℕ → ℕ
+count_of bytes x = count_by (λ b. eqb b x) bytes
 
 -- how many of the first n meshes of an intensity grid are at a level. Notice 49, 5(3)(3-1)
 unfoldable pub count_at : List ℕ → ℕ → ℕ → ℕ
@@ -20,9 +17,3 @@ meshes_at grid level =
     cond (not (is_grid grid)) (refused 42)
     (cond (not (has_no_level_15 grid)) (refused 43)
     (cond (not (is_level level)) (refused 41) (value (count_at grid level meshes))))
-
--- One count less another, or the refusal of either
-abbrev pub less_of : MeshResult → MeshResult → MeshResult
-less_of (Value n) (Value m) = Value (n - m)
-less_of (Value n) (Refused row) = Refused row
-less_of (Refused row) second = Refused row

@@ -37,156 +37,87 @@ mod arguments; // the pictures to mark
 mod counts; // how many meshes are at a level
 mod heading; // the line of the marked pictures
 mod levels; // the lines of levels
-mod line; // words and numbers of the output
 mod names; // names of pictures and radars
 mod part; // the block of a part
 mod quality; // the lines of quality values
 mod totals; // how often each answer came
 
+use program_streams::reading::{Listener, feed_all};
 use receiver_slice_call::calls::slice_call;
-use receiver_state::answer::{Answer, number_of};
+use receiver_state::answer::Answer;
 use receiver_state::state::{State, fresh};
 use std::io;
-use std::io::{Read, Write};
+use std::io::Write;
+use totals::Counts;
 
-// The receiver after some bytes, how many they were, and whether to go on
-#[derive(Clone, Copy)]
-struct FeedResult {
+// The receiver's state and grid after the bytes read so far, how many these are, and how often each
+// answer came
+#[derive(Drop)]
+struct Decoder<W> {
+    out: W,
     state: State,
+    grid: [u8; 20000],
     total: u64,
-    goes_on: bool,
+    counts: Counts,
 }
 
-// Bytes read so far; a count of 64 bits stays at its end, which no input reaches
-fn more(total: u64, count: usize) -> u64 {
-    let n = count as u64;
-    if total <= u64::MAX - n {
-        return total + n;
-    }
-    u64::MAX
-}
-
-// The part that complete tells; 0 at any other answer
-fn complete_part(answer: Answer) -> u8 {
-    match answer {
-        Answer::Complete(part) => part,
-        _ => 0,
-    }
-}
-
-// Counts the answer at the last of `taken` bytes more, and writes the block of a part that is
-// complete
-fn report<W: Write>(
-    out: &mut W,
-    answer: Answer,
-    total: u64,
-    taken: usize,
-    state: State,
-    grid: &[u8],
-    counts: &mut [u64],
-) -> io::Result<()> {
-    let number = number_of(answer);
-    let part = complete_part(answer);
-    let count = totals::counted(counts, number);
-    part::block(out, number, count, more(total, taken), part, state, grid)
-}
-
-// Gives the bytes to the receiver, counts its answers, and writes the block of each part that is
-// complete
-fn feed<W: Write>(
-    out: &mut W,
-    state: State,
-    total: u64,
-    grid: &mut [u8],
-    bytes: &[u8],
-    counts: &mut [u64],
-) -> io::Result<FeedResult> {
-    let mut s = state;
-    let mut at = 0;
-    while at < bytes.len() {
-        let result = slice_call(s, grid, &bytes[at..]);
-        let taken = result.count;
-        if taken == 0 {
-            return Ok(FeedResult {
-                state: s,
-                total,
-                goes_on: false,
-            });
+impl<W: Write> Decoder<W> {
+    // Counts an answer, and writes the block of a part that is complete
+    fn report(&mut self, answer: Answer) -> io::Result<()> {
+        let count = self.counts.count(answer);
+        if let Answer::Complete(part) = answer {
+            write!(self.out, "part {count} complete at byte {}", self.total)?;
+            part::block(&mut self.out, part, &self.state, &self.grid)?;
         }
-        at += taken;
-        let next = result.state;
-        s = next;
-        let answer = result.answer;
-        report(out, answer, total, at, s, grid, counts)?;
+        Ok(())
     }
-    Ok(FeedResult {
-        state: s,
-        total: more(total, at),
-        goes_on: true,
-    })
+
+    // Writes the lines at the end
+    fn finish(&mut self) -> io::Result<()> {
+        self.counts.last_lines(&mut self.out, self.total)
+    }
 }
 
-// Reads once, as much as there is, and gives it to the receiver
-fn read_and_feed<R: Read, W: Write>(
-    input: &mut R,
-    out: &mut W,
-    fed: FeedResult,
-    grid: &mut [u8],
-    buffer: &mut [u8],
-    counts: &mut [u64],
-) -> io::Result<FeedResult> {
-    let state = fed.state;
-    let n = input.read(buffer)?;
-    if n == 0 {
-        return Ok(FeedResult {
-            state,
-            total: fed.total,
-            goes_on: false,
-        });
-    }
-    feed(out, state, fed.total, grid, &buffer[..n], counts)
-}
-
-// A proved loop has to end, and nothing says that the input does: the loop has more turns than any
-// run uses up
-fn feed_all<R: Read, W: Write>(
-    input: &mut R,
-    out: &mut W,
-    marks: u32,
-    grid: &mut [u8],
-    buffer: &mut [u8],
-    counts: &mut [u64],
-) -> io::Result<FeedResult> {
-    let mut fed = FeedResult {
-        state: fresh(marks),
-        total: 0,
-        goes_on: true,
-    };
-    for _ in 0..u64::MAX {
-        fed = read_and_feed(input, out, fed, grid, buffer, counts)?;
-        if !fed.goes_on {
-            break;
+impl<W: Write> Listener for Decoder<W> {
+    // Gives the bytes to the receiver, and reports its answers. A count of 64 bits stays at its end,
+    // which no input reaches
+    // Stays a while: each call says how many bytes it takes. Stays a loop of its own: one shared with
+    // `listen` would take what is done at an answer as a closure that borrows the rest of the struct,
+    // and a struct of state and grid alone would stand inside this one, which has both already;
+    // neither is plainer
+    #[tactic(auto, using(receiver_slice_call::proofs::Laws::count_most))]
+    fn take(&mut self, bytes: &[u8]) -> io::Result<bool> {
+        let mut rest = bytes;
+        while !rest.is_empty() {
+            let result = slice_call(self.state, &mut self.grid, rest);
+            let count = result.count;
+            if count == 0 {
+                return Ok(false); // refused, which no call on this state and grid is
+            }
+            rest = &rest[count..];
+            self.state = result.state;
+            self.total = self.total.saturating_add(count as u64);
+            self.report(result.answer)?;
         }
+        Ok(true)
     }
-    Ok(fed)
-}
-
-// Decodes what is read, with these pictures marked
-fn decode_input<R: Read, W: Write>(input: &mut R, out: &mut W, marks: u32) -> io::Result<()> {
-    heading::first_lines(out, marks)?;
-    let mut grid = [0u8; 20000];
-    let mut buffer = [0u8; 65536];
-    let mut counts = [0u64; totals::PLACES];
-    let fed = feed_all(input, out, marks, &mut grid, &mut buffer, &mut counts)?;
-    totals::last_lines(out, &counts, fed.total)
 }
 
 // Nothing is decoded where an argument is wrong
 fn main(rt: HostRuntime) -> io::Result<()> {
-    let asked = arguments::read(&rt, &mut rt.stderr())?;
-    if !asked.right {
+    let Some(marks) = arguments::read(&rt, &mut rt.stderr())? else {
         return Ok(());
-    }
+    };
     let mut out = rt.stdout();
-    decode_input(&mut rt.stdin(), &mut out, asked.marks)
+    heading::first_lines(&mut out, marks)?;
+    let mut decoder = Decoder {
+        out,
+        state: fresh(marks),
+        grid: [0; 20000],
+        total: 0,
+        counts: Counts::new(),
+    };
+    let mut buffer = [0u8; 65536];
+    feed_all(&mut rt.stdin(), &mut buffer, &mut decoder)?;
+    decoder.finish()
 }

@@ -1,68 +1,56 @@
-// Names of pictures and radars. A byte string takes no letter past ASCII: the names stand in UTF-8 by
-// their bytes, and in letters, in the same order, above them.
-use crate::line::put_entry;
-use std::io;
-use std::io::Write;
+// Names of pictures and radars.
 
 // The name of a picture, by its picture code. Notice 49, 5(1)
-//   東北海道 西北海道 北北海道 北部東北 南部東北 東部北陸 西部北陸 関東地方 東部東海 西部東海
-//   北部近畿 南部近畿 中国地方 四国地方 北部福岡 南部福岡 北鹿児島 南鹿児島 東部沖縄 西部沖縄
-pub fn put_picture<W: Write>(out: &mut W, code: u8) -> io::Result<()> {
-    put_entry(
-        out,
-        b"\
-        \xC0 \xE6\x9D\xB1\xE5\x8C\x97\xE6\xB5\xB7\xE9\x81\x93|\
-        \xC1 \xE8\xA5\xBF\xE5\x8C\x97\xE6\xB5\xB7\xE9\x81\x93|\
-        \xC2 \xE5\x8C\x97\xE5\x8C\x97\xE6\xB5\xB7\xE9\x81\x93|\
-        \xC4 \xE5\x8C\x97\xE9\x83\xA8\xE6\x9D\xB1\xE5\x8C\x97|\
-        \xC5 \xE5\x8D\x97\xE9\x83\xA8\xE6\x9D\xB1\xE5\x8C\x97|\
-        \xC8 \xE6\x9D\xB1\xE9\x83\xA8\xE5\x8C\x97\xE9\x99\xB8|\
-        \xC9 \xE8\xA5\xBF\xE9\x83\xA8\xE5\x8C\x97\xE9\x99\xB8|\
-        \xCC \xE9\x96\xA2\xE6\x9D\xB1\xE5\x9C\xB0\xE6\x96\xB9|\
-        \xD2 \xE6\x9D\xB1\xE9\x83\xA8\xE6\x9D\xB1\xE6\xB5\xB7|\
-        \xD3 \xE8\xA5\xBF\xE9\x83\xA8\xE6\x9D\xB1\xE6\xB5\xB7|\
-        \xD4 \xE5\x8C\x97\xE9\x83\xA8\xE8\xBF\x91\xE7\x95\xBF|\
-        \xD5 \xE5\x8D\x97\xE9\x83\xA8\xE8\xBF\x91\xE7\x95\xBF|\
-        \xD8 \xE4\xB8\xAD\xE5\x9B\xBD\xE5\x9C\xB0\xE6\x96\xB9|\
-        \xDC \xE5\x9B\x9B\xE5\x9B\xBD\xE5\x9C\xB0\xE6\x96\xB9|\
-        \xE0 \xE5\x8C\x97\xE9\x83\xA8\xE7\xA6\x8F\xE5\xB2\xA1|\
-        \xE1 \xE5\x8D\x97\xE9\x83\xA8\xE7\xA6\x8F\xE5\xB2\xA1|\
-        \xE4 \xE5\x8C\x97\xE9\xB9\xBF\xE5\x85\x90\xE5\xB3\xB6|\
-        \xE5 \xE5\x8D\x97\xE9\xB9\xBF\xE5\x85\x90\xE5\xB3\xB6|\
-        \xF0 \xE6\x9D\xB1\xE9\x83\xA8\xE6\xB2\x96\xE7\xB8\x84|\
-        \xF1 \xE8\xA5\xBF\xE9\x83\xA8\xE6\xB2\x96\xE7\xB8\x84|",
-        code,
-    )
+pub fn picture(code: u8) -> Option<&'static str> {
+    match code {
+        0xC0 => Some("東北海道"),
+        0xC1 => Some("西北海道"),
+        0xC2 => Some("北北海道"),
+        0xC4 => Some("北部東北"),
+        0xC5 => Some("南部東北"),
+        0xC8 => Some("東部北陸"),
+        0xC9 => Some("西部北陸"),
+        0xCC => Some("関東地方"),
+        0xD2 => Some("東部東海"),
+        0xD3 => Some("西部東海"),
+        0xD4 => Some("北部近畿"),
+        0xD5 => Some("南部近畿"),
+        0xD8 => Some("中国地方"),
+        0xDC => Some("四国地方"),
+        0xE0 => Some("北部福岡"),
+        0xE1 => Some("南部福岡"),
+        0xE4 => Some("北鹿児島"),
+        0xE5 => Some("南鹿児島"),
+        0xF0 => Some("東部沖縄"),
+        0xF1 => Some("西部沖縄"),
+        _ => None,
+    }
 }
 
 // The name of a radar, by its radar code. Notice 49, 5(2)
-//   札幌 釧路 函館 仙台 秋田 東京 新潟 福井 名古屋 大阪 松江
-//   広島 室戸岬 福岡 種子島 名瀬 沖縄 石垣島 長野 静岡 富士山
-pub fn put_radar<W: Write>(out: &mut W, code: u8) -> io::Result<()> {
-    put_entry(
-        out,
-        b"\
-        \xA0 \xE6\x9C\xAD\xE5\xB9\x8C|\
-        \xA1 \xE9\x87\xA7\xE8\xB7\xAF|\
-        \xA2 \xE5\x87\xBD\xE9\xA4\xA8|\
-        \xA3 \xE4\xBB\x99\xE5\x8F\xB0|\
-        \xA4 \xE7\xA7\x8B\xE7\x94\xB0|\
-        \xA5 \xE6\x9D\xB1\xE4\xBA\xAC|\
-        \xA7 \xE6\x96\xB0\xE6\xBD\x9F|\
-        \xA8 \xE7\xA6\x8F\xE4\xBA\x95|\
-        \xA9 \xE5\x90\x8D\xE5\x8F\xA4\xE5\xB1\x8B|\
-        \xAA \xE5\xA4\xA7\xE9\x98\xAA|\
-        \xAB \xE6\x9D\xBE\xE6\xB1\x9F|\
-        \xAC \xE5\xBA\x83\xE5\xB3\xB6|\
-        \xAD \xE5\xAE\xA4\xE6\x88\xB8\xE5\xB2\xAC|\
-        \xAE \xE7\xA6\x8F\xE5\xB2\xA1|\
-        \xAF \xE7\xA8\xAE\xE5\xAD\x90\xE5\xB3\xB6|\
-        \xB0 \xE5\x90\x8D\xE7\x80\xAC|\
-        \xB1 \xE6\xB2\x96\xE7\xB8\x84|\
-        \xB3 \xE7\x9F\xB3\xE5\x9E\xA3\xE5\xB3\xB6|\
-        \xB4 \xE9\x95\xB7\xE9\x87\x8E|\
-        \xB5 \xE9\x9D\x99\xE5\xB2\xA1|\
-        \xB6 \xE5\xAF\x8C\xE5\xA3\xAB\xE5\xB1\xB1|",
-        code,
-    )
+pub fn radar(code: u8) -> Option<&'static str> {
+    match code {
+        0xA0 => Some("札幌"),
+        0xA1 => Some("釧路"),
+        0xA2 => Some("函館"),
+        0xA3 => Some("仙台"),
+        0xA4 => Some("秋田"),
+        0xA5 => Some("東京"),
+        0xA7 => Some("新潟"),
+        0xA8 => Some("福井"),
+        0xA9 => Some("名古屋"),
+        0xAA => Some("大阪"),
+        0xAB => Some("松江"),
+        0xAC => Some("広島"),
+        0xAD => Some("室戸岬"),
+        0xAE => Some("福岡"),
+        0xAF => Some("種子島"),
+        0xB0 => Some("名瀬"),
+        0xB1 => Some("沖縄"),
+        0xB3 => Some("石垣島"),
+        0xB4 => Some("長野"),
+        0xB5 => Some("静岡"),
+        0xB6 => Some("富士山"),
+        _ => None,
+    }
 }

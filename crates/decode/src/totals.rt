@@ -1,95 +1,64 @@
-// How often each answer came: a count for each number to 22, and behind them one for 51
-// (Request 101).
-use crate::line::{put_byte, put_entry, put_labelled};
+// How often each answer came.
+use receiver_state::answer::{Answer, number_of};
 use std::io;
 use std::io::Write;
 
-// How many counts there are
-pub const PLACES: usize = 24;
-
-// The answer to an unmarked picture (Request 101)
-const UNMARKED: u8 = 51;
-
-// Where it is counted: behind 22
-const UNMARKED_PLACE: usize = 23;
-
-// A count of 64 bits stays at its end, which no input reaches
-fn one_more(count: u64) -> u64 {
-    if count < u64::MAX {
-        return count + 1;
-    }
-    u64::MAX
-}
-
-// Where an answer is counted. No number but these is an answer's: any other has no place
-fn place_of(number: u8) -> usize {
-    match number {
-        0..=22 => number as usize,
-        UNMARKED => UNMARKED_PLACE,
-        _ => PLACES,
-    }
-}
-
-// Counts an answer, and gives how often it came
-pub fn counted(counts: &mut [u64], number: u8) -> u64 {
-    let at = place_of(number);
-    if at < counts.len() {
-        counts[at] = one_more(counts[at]);
-        return counts[at];
-    }
-    0
-}
+// A count for each answer, by its number: 0 to 22, and 51 (Request 101). No answer has a number
+// between them
+#[derive(Drop)]
+pub struct Counts([u64; 52]);
 
 // What an answer says, in the words of 01's table and, of 51, of Request 101
-fn put_meaning<W: Write>(out: &mut W, number: u8) -> io::Result<()> {
-    put_entry(
-        out,
-        b"\
-        \x01  part begun|\
-        \x02  data text taken|\
-        \x03  complete|\
-        \x0B  an opening ends while a text is under way|\
-        \x0C  part open, place 0, byte is not the opening's due byte|\
-        \x0D  block byte 1 not a picture code|\
-        \x0E  byte 2 not one of the 18 kinds|\
-        \x0F  a start kind while a part is open|\
-        \x10  a data or end kind with no part open, or not the due one|\
-        \x11  due kind, other picture code than the start's|\
-        \x12  a later block byte breaks its rule|\
-        \x13  not FE|\
-        \x14  wrong check byte|\
-        \x15  not FF|\
-        \x16  end text's FF: status 2 is not the highest mode|\
-        \x33  a listed code that is unmarked",
-        number,
-    )
-}
-
-// No line for an answer that did not come
-fn answer_line<W: Write>(out: &mut W, number: u8, count: u64) -> io::Result<()> {
-    if count == 0 {
-        return Ok(());
+// Stays a match on the number: the lines come in the numbers' order and print them, so one on
+// `Answer` would need a list of all answers beside it, and is no plainer
+fn meaning(number: usize) -> &'static str {
+    match number {
+        1 => "part begun",
+        2 => "data text taken",
+        3 => "complete",
+        11 => "an opening ends while a text is under way",
+        12 => "part open, place 0, byte is not the opening's due byte",
+        13 => "block byte 1 not a picture code",
+        14 => "byte 2 not one of the 18 kinds",
+        15 => "a start kind while a part is open",
+        16 => "a data or end kind with no part open, or not the due one",
+        17 => "due kind, other picture code than the start's",
+        18 => "a later block byte breaks its rule",
+        19 => "not FE",
+        20 => "wrong check byte",
+        21 => "not FF",
+        22 => "end text's FF: status 2 is not the highest mode",
+        51 => "a listed code that is unmarked",
+        _ => "",
     }
-    put_labelled(out, b"answer ", number as u64, 2)?;
-    put_labelled(out, b"  ", count, 8)?;
-    put_meaning(out, number)?;
-    put_byte(out, b'\n')
 }
 
-// A line for each answer but 0 that came
-fn answer_lines<W: Write>(out: &mut W, counts: &[u64; PLACES]) -> io::Result<()> {
-    let mut number = 1;
-    while number <= 22 {
-        answer_line(out, number, counts[number as usize])?;
-        number += 1;
+impl Counts {
+    // No answer yet
+    pub fn new() -> Counts {
+        Counts([0; 52])
     }
-    answer_line(out, UNMARKED, counts[UNMARKED_PLACE])
-}
 
-// Writes the lines at the end
-pub fn last_lines<W: Write>(out: &mut W, counts: &[u64; PLACES], total: u64) -> io::Result<()> {
-    answer_lines(out, counts)?;
-    put_labelled(out, b"bytes ", total, 0)?;
-    put_byte(out, b'\n')?;
-    out.flush()
+    // Counts an answer, and gives how often it came. A count of 64 bits stays at its end, which no
+    // input reaches
+    pub fn count(&mut self, answer: Answer) -> u64 {
+        match self.0.get_mut(number_of(answer) as usize) {
+            Some(count) => {
+                *count = count.saturating_add(1);
+                *count
+            }
+            None => 0,
+        }
+    }
+
+    // Writes the lines at the end: one for each answer but 0 that came, and how many bytes were read
+    pub fn last_lines<W: Write>(&self, out: &mut W, total: u64) -> io::Result<()> {
+        for (number, count) in self.0.iter().enumerate().skip(1) {
+            if *count > 0 {
+                writeln!(out, "answer {number:2}  {count:8}  {}", meaning(number))?;
+            }
+        }
+        writeln!(out, "bytes {total}")?;
+        out.flush()
+    }
 }

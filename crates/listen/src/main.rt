@@ -5,28 +5,21 @@
 ghost use Rattle.std.specs.Prelude.{◌≡◌, ◌++◌, OnOk, codes, decimal};
 ghost use Rattle.std.specs.Io.KnownBytes.{Appends};
 
+use program_streams::reading::{Listener, feed_all};
 use receiver_marks::marks::all_marks;
 use receiver_slice_call::calls::slice_call;
 use receiver_state::answer::number_of;
 use receiver_state::state::{State, fresh};
 use std::io;
-use std::io::{Read, Write};
+use std::io::Write;
 
-// The receiver after some bytes, how many they were, and whether to go on
-#[derive(Clone, Copy)]
-struct FeedResult {
+// The receiver's state and grid after the bytes read so far, and how many these are
+#[derive(Drop)]
+struct Receiver<W> {
+    out: W,
     state: State,
+    grid: [u8; 20000],
     total: u64,
-    goes_on: bool,
-}
-
-// Bytes read so far; a count of 64 bits stays at its end, which no input reaches
-fn more(total: u64, count: usize) -> u64 {
-    let n = count as u64;
-    if total <= u64::MAX - n {
-        return total + n;
-    }
-    u64::MAX
 }
 
 fn put_line<W: Write>(out: &mut W, total: u64, number: u8) -> io::Result<()>
@@ -35,95 +28,50 @@ fn put_line<W: Write>(out: &mut W, total: u64, number: u8) -> io::Result<()>
     writeln!(out, "{total} {number}")
 }
 
-// The line of an answer other than 0
-fn put_answer<W: Write>(out: &mut W, total: u64, number: u8) -> io::Result<()> {
-    if number == 0 {
-        return Ok(());
-    }
-    put_line(out, total, number)
-}
-
-// Gives the bytes to the receiver, and writes the lines of all answers at the end, so that a
-// trickling input is answered at once
-fn feed<W: Write>(
-    state: State,
-    total: u64,
-    grid: &mut [u8],
-    bytes: &[u8],
-    out: &mut W,
-) -> io::Result<FeedResult> {
-    let mut s = state;
-    let mut at = 0;
-    while at < bytes.len() {
-        let result = slice_call(s, grid, &bytes[at..]);
-        let count = result.count;
-        if count == 0 {
-            out.flush()?;
-            return Ok(FeedResult {
-                state: s,
-                total,
-                goes_on: false,
-            });
+impl<W: Write> Receiver<W> {
+    // Gives the bytes to the receiver, writes the lines of its answers, and says whether to go on. A
+    // count of 64 bits stays at its end, which no input reaches
+    // Stays a while: each call says how many bytes it takes. Stays a loop of its own: one shared with
+    // `decode` would take what is done at an answer as a closure that borrows the rest of the struct,
+    // and a struct of state and grid alone would stand inside this one, which has both already;
+    // neither is plainer
+    #[tactic(auto, using(receiver_slice_call::proofs::Laws::count_most))]
+    fn answer(&mut self, bytes: &[u8]) -> io::Result<bool> {
+        let mut rest = bytes;
+        while !rest.is_empty() {
+            let result = slice_call(self.state, &mut self.grid, rest);
+            let count = result.count;
+            if count == 0 {
+                return Ok(false); // refused, which no call on this state and grid is
+            }
+            rest = &rest[count..];
+            self.state = result.state;
+            self.total = self.total.saturating_add(count as u64);
+            let number = number_of(result.answer);
+            if number != 0 {
+                put_line(&mut self.out, self.total, number)?;
+            }
         }
-        at += count;
-        let next = result.state;
-        s = next;
-        let answer = result.answer;
-        put_answer(out, more(total, at), number_of(answer))?;
+        Ok(true)
     }
-    out.flush()?;
-    Ok(FeedResult {
-        state: s,
-        total: more(total, at),
-        goes_on: true,
-    })
 }
 
-// Reads once, as much as there is, and gives it to the receiver
-fn read_and_feed<R: Read, W: Write>(
-    fed: FeedResult,
-    input: &mut R,
-    grid: &mut [u8],
-    buffer: &mut [u8],
-    out: &mut W,
-) -> io::Result<FeedResult> {
-    let state = fed.state;
-    let n = input.read(buffer)?;
-    if n == 0 {
-        return Ok(FeedResult {
-            state,
-            total: fed.total,
-            goes_on: false,
-        });
+impl<W: Write> Listener for Receiver<W> {
+    // The lines of all answers are out at the end, so that a trickling input is answered at once
+    fn take(&mut self, bytes: &[u8]) -> io::Result<bool> {
+        let goes_on = self.answer(bytes)?;
+        self.out.flush()?;
+        Ok(goes_on)
     }
-    feed(state, fed.total, grid, &buffer[..n], out)
-}
-
-// A proved loop has to end, and nothing says that the input does: the loop has more turns than any
-// run uses up
-fn feed_all<R: Read, W: Write>(
-    input: &mut R,
-    grid: &mut [u8],
-    buffer: &mut [u8],
-    out: &mut W,
-) -> io::Result<()> {
-    let mut fed = FeedResult {
-        state: fresh(all_marks()),
-        total: 0,
-        goes_on: true,
-    };
-    for _ in 0..u64::MAX {
-        fed = read_and_feed(fed, input, grid, buffer, out)?;
-        if !fed.goes_on {
-            break;
-        }
-    }
-    Ok(())
 }
 
 fn main(rt: HostRuntime) -> io::Result<()> {
-    let mut grid = [0u8; 20000];
+    let mut receiver = Receiver {
+        out: rt.stdout(),
+        state: fresh(all_marks()),
+        grid: [0; 20000],
+        total: 0,
+    };
     let mut buffer = [0u8; 65536];
-    let mut out = rt.stdout();
-    feed_all(&mut rt.stdin(), &mut grid, &mut buffer, &mut out)
+    feed_all(&mut rt.stdin(), &mut buffer, &mut receiver)
 }

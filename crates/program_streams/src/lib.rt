@@ -1,26 +1,16 @@
-// Reading that the programs share, over the readers of std.
+// What the programs share: reading to an input's end, printing words and numbers, numbers out of bytes,
+// and a sum over bytes.
+//
+//   reading   read_full fills a space from a reader; feed_all hands a reader's bytes, as they come, to a
+//             Listener, to the input's end
+//   printing  word, spaced (any value that prints, with a space before it), list, end_line
+//   numbers   byte_at, bytes_at, two_at, minute_at: what stands at a place of some bytes
+//   sums      adler of bytes, and with_byte for a sum that grows byte by byte
 #![tactic(auto)]
 
-ghost use Rattle.std.specs.Prelude.{◌<◌, ◌≤◌, length, take, IfOk};
-ghost use Rattle.std.specs.Io.KnownBytes.{Consumes, IsAtEnd};
+pub mod numbers;
+pub mod printing;
+pub mod reading;
+pub mod sums;
 
-use std::io;
-use std::io::Read;
-
-// Reads until `space` is full or the input ends, and gives how many bytes came, which stand at the
-// front of `space`. With an error some bytes may have been read.
-pub fn read_full<R: Read>(input: &mut R, space: &mut [u8]) -> io::Result<usize>
-    ensures within { IfOk result (λ n. n ≤ length space.new) }
-    ensures bytes { IfOk result (λ n. Consumes (R.remaining input.old) (R.remaining input.new) (take n space.new)) }
-    ensures end { IfOk result (λ n. n < length space.new → IsAtEnd (R.remaining input.new)) }
-{
-    let mut done = 0;
-    while done < space.len() {
-        let n = input.read(&mut space[done..])?;
-        if n == 0 {
-            break;
-        }
-        done += n;
-    }
-    Ok(done)
-}
+pub use reading::read_full;

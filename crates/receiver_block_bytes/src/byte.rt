@@ -9,18 +9,17 @@ use crate::end::{end_takes, enter_modes};
 use crate::start::{enter_header, start_takes};
 use crate::time::{enter_digits, with_digit};
 use receiver_state::grid::Effect;
+use receiver_state::state::State;
 use text::header::Header;
 use text::payload::is_payload_byte;
 use text_calendar::time::time_check;
-use text_calendar_spec::time::TimeCheck;
 use text_kinds::table::{is_end_kind, is_start_kind, part_of_kind, text_of_kind};
 use text_lengths::block::block_length;
 
-// What a block byte leaves: whether it keeps its rule, header, modes and waiting digits with it, and
-// its effect on the grid. Where it does not, header, modes and digits are as they were.
+// What a block byte that keeps its rule leaves: header, modes and waiting digits with it, and its
+// effect on the grid.
 #[derive(Clone, Copy)]
-pub struct EnterResult {
-    pub kept: bool,
+pub struct Entered {
     pub header: Header,
     pub modes: [u8; 8],
     pub digits: [u8; 12],
@@ -30,10 +29,14 @@ pub struct EnterResult {
 // Whether a byte lies within the block, from byte 3 on, and keeps its rule: by start, end or data
 // block. Of a start block's bytes, byte 23 is asked elsewhere. Notice 49, 4(1)(1-1)(c)(イ) to (エ),
 // (d)(イ) and (ウ), 4(1)(1-2)(c)(エ) and (d)(ウ), 4(2)(c)(エ) and (d)(ウ)
-fn is_taken(kind: u8, header: Header, i: u16, b: u8) -> bool
-    requires { is_start_kind kind ≡ true → i ≢ 23 }
-    ensures { result ≡ is_taken kind header no_digits i b }
+#[tactic(auto, using(text_laws::proofs::KindTable::start_block_length), unfolding(crate::specs::BlockByte::is_taken, receiver_spec::specs::Contents::takes_byte))]
+fn is_taken(s: State, b: u8) -> bool
+    requires { is_start_kind s.frame.kind ≡ true → s.frame.place ≢ 23 }
+    ensures { result ≡ is_taken s.frame.kind s.header no_digits s.frame.place b }
 {
+    let State { frame, header, .. } = s;
+    let kind = frame.kind;
+    let i = frame.place;
     if (i < 3) | (block_length(kind) <= i) {
         return false;
     }
@@ -41,8 +44,7 @@ fn is_taken(kind: u8, header: Header, i: u16, b: u8) -> bool
         return start_takes(header, i, b);
     }
     if is_end_kind(kind) {
-        let radars = header.radars;
-        return end_takes(radars, i, b);
+        return end_takes(header.radars, i, b);
     }
     is_payload_byte(part_of_kind(kind), b)
 }
@@ -63,133 +65,99 @@ fn grid_place(kind: u8, i: u16) -> usize
 // Byte 23 of a start block: the time is whole. The time check is made once: it gives the minute, which
 // enters the header, or says that the digits are no time; from here on no digit waits (Request 111).
 // Notice 49, 4(1)(1-1)(c)(イ) and (d)(イ)
-fn enter_time(header: Header, modes: [u8; 8], digits: [u8; 12], b: u8) -> EnterResult
-    ensures { result ≡ time_entered header modes digits b }
+fn enter_time(s: State, b: u8) -> Option<Entered>
+    ensures { result ≡ time_entered s.header s.modes s.digits b }
 {
-    let broken = EnterResult {
-        kept: false,
+    let State {
         header,
         modes,
         digits,
+        ..
+    } = s;
+    if !b.is_ascii_digit() {
+        return None;
+    }
+    let time = time_check(with_digit(digits, 15, b));
+    let minute = time?;
+    Some(Entered {
+        header: Header { minute, ..header },
+        modes,
+        digits: [0; 12],
         effect: Effect::Keep,
-    };
-    if (b < 48) | (57 < b) {
-        return broken;
-    }
-    let check = time_check(with_digit(digits, 15, b));
-    match check {
-        TimeCheck::Minute(minute) => {
-            let mut timed = header;
-            timed.minute = minute;
-            EnterResult {
-                kept: true,
-                header: timed,
-                modes,
-                digits: [0; 12],
-                effect: Effect::Keep,
-            }
-        }
-        TimeCheck::Invalid => broken,
-    }
+    })
 }
 
-// The same of a start block's byte: it enters the header or waits among the digits.
+// A start block's byte that keeps its rule enters the header or waits among the digits.
 // Notice 49, 4(1)(1-1)(c)(イ) to (エ), (d)(イ) and (ウ), 4(1)(1-2)(c)(エ) and (d)(ウ),
 // 4(2)(c)(エ) and (d)(ウ)
-fn enter_start(
-    kind: u8,
-    header: Header,
-    modes: [u8; 8],
-    digits: [u8; 12],
-    i: u16,
-    b: u8,
-) -> EnterResult
-    requires { is_start_kind kind ≡ true }
-    ensures { result ≡ entered kind header modes digits i b }
+fn enter_start(s: State, b: u8) -> Option<Entered>
+    requires { is_start_kind s.frame.kind ≡ true }
+    ensures { result ≡ entered s.frame.kind s.header s.modes s.digits s.frame.place b }
 {
+    let State {
+        frame,
+        header,
+        modes,
+        digits,
+        ..
+    } = s;
+    let i = frame.place;
     if i == 23 {
-        return enter_time(header, modes, digits, b);
+        return enter_time(s, b);
     }
-    let kept = is_taken(kind, header, i, b);
-    if kept {
-        let with_byte = enter_header(header, i, b);
-        let waiting = enter_digits(digits, i, b);
-        return EnterResult {
-            kept,
-            header: with_byte,
-            modes,
-            digits: waiting,
-            effect: Effect::Keep,
-        };
+    if !is_taken(s, b) {
+        return None;
     }
-    EnterResult {
-        kept,
-        header,
+    Some(Entered {
+        header: enter_header(header, i, b),
         modes,
-        digits,
+        digits: enter_digits(digits, i, b),
         effect: Effect::Keep,
-    }
+    })
 }
 
-// The same of an end block's byte, which enters the modes, and of a payload byte, which enters the grid.
+// An end block's byte that keeps its rule enters the modes, and a payload byte the grid.
 // Notice 49, 4(1)(1-1)(c)(イ) to (エ), (d)(イ) and (ウ), 4(1)(1-2)(c)(エ) and (d)(ウ),
 // 4(2)(c)(エ) and (d)(ウ)
-fn enter_later(
-    kind: u8,
-    header: Header,
-    modes: [u8; 8],
-    digits: [u8; 12],
-    i: u16,
-    b: u8,
-) -> EnterResult
-    requires { is_start_kind kind ≡ false }
-    ensures { result ≡ entered kind header modes digits i b }
+fn enter_later(s: State, b: u8) -> Option<Entered>
+    requires { is_start_kind s.frame.kind ≡ false }
+    ensures { result ≡ entered s.frame.kind s.header s.modes s.digits s.frame.place b }
 {
-    let kept = is_taken(kind, header, i, b);
-    if kept & is_end_kind(kind) {
-        let with_byte = enter_modes(modes, i, b);
-        return EnterResult {
-            kept,
-            header,
-            modes: with_byte,
-            digits,
-            effect: Effect::Keep,
-        };
-    }
-    if kept {
-        let at = grid_place(kind, i);
-        return EnterResult {
-            kept,
-            header,
-            modes,
-            digits,
-            effect: Effect::Enter(at),
-        };
-    }
-    EnterResult {
-        kept,
+    let State {
+        frame,
         header,
         modes,
         digits,
-        effect: Effect::Keep,
+        ..
+    } = s;
+    let i = frame.place;
+    if !is_taken(s, b) {
+        return None;
     }
+    if is_end_kind(frame.kind) {
+        return Some(Entered {
+            header,
+            modes: enter_modes(modes, i, b),
+            digits,
+            effect: Effect::Keep,
+        });
+    }
+    Some(Entered {
+        header,
+        modes,
+        digits,
+        effect: Effect::Enter(grid_place(frame.kind, i)),
+    })
 }
 
 // A block byte that keeps its rule enters the header, the waiting digits, the modes or the grid.
 // Notice 49, 4(1)(1-1)(c)(イ) to (エ), (d)(イ) and (ウ), 4(1)(1-2)(c)(エ) and (d)(ウ),
 // 4(2)(c)(エ) and (d)(ウ)
-pub fn enter_byte(
-    kind: u8,
-    header: Header,
-    modes: [u8; 8],
-    digits: [u8; 12],
-    i: u16,
-    b: u8,
-) -> EnterResult
-    ensures { result ≡ entered kind header modes digits i b }
+pub fn enter_byte(s: State, b: u8) -> Option<Entered>
+    ensures { result ≡ entered s.frame.kind s.header s.modes s.digits s.frame.place b }
 {
-    if is_start_kind(kind) {
-        return enter_start(kind, header, modes, digits, i, b);
+    if is_start_kind(s.frame.kind) {
+        return enter_start(s, b);
     }
-    enter_later(kind, header, modes, digits, i, b)
+    enter_later(s, b)
 }

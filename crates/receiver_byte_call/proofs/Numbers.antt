@@ -7,10 +7,10 @@ use Rattle.receiver_state.specs.declared.answer.Answer.TheVariants.{Quiet, Begun
 use Rattle.receiver_byte_call.specs.Returned.{reply_of}
 
 pub number_same : (a : Answer) → number (reply_of a) ≡ number_of a
-unfolding reply_of number_of
+unfolding reply_of
 number_same Quiet = refl
 number_same Begun = refl
 number_same Taken = refl
 number_same (Complete part) = refl
-number_same (Dropped n) = refl
-number_same (Refused n) = refl
+number_same (Dropped row) = refl
+number_same (Refused refusal) = refl

@@ -18,6 +18,7 @@ use receiver_state::grid::apply;
 use receiver_state::state::State;
 use receiver_state_ranges::ranges::is_possible;
 use receiver_step::decide::decide;
+use refusals::refusal::Refusal;
 
 // What a call returns: the state, the answer and how many bytes it took
 #[derive(Clone, Copy)]
@@ -28,28 +29,28 @@ pub struct CallResult {
 }
 
 // A refusal: the state as it was, and nothing taken
-pub fn refused(state: State, number: u8) -> CallResult
-    ensures { result ≡ refusal state number }
+pub fn refused(state: State, why: Refusal) -> CallResult
+    ensures { result ≡ refusal state why }
 {
     CallResult {
         state,
-        answer: Answer::Refused(number),
+        answer: Answer::Refused(why),
         count: 0,
     }
 }
 
 // The byte call. Inside a payload, where most bytes are, it goes by fewer tests, and enters the
 // byte where (c)(エ) has it. Notice 49, 4(1)(1-1), 4(1)(1-2), 4(2)
+#[tactic(auto, unfolding(crate::specs::Returned::returned, crate::specs::Returned::reply_of, receiver_spec::specs::Calls::byte_call, receiver_bytes_seen::specs::Behind::seen_after))]
 pub fn byte_call(state: State, grid: &mut [u8], b: u8) -> CallResult
     ensures grid_after { returned result grid.new ≡ byte_call (state_of state) grid.old b }
     ensures seen_value { result.state.seen ≡ seen_after state.seen (take result.count (b ∷ [])) }
 {
     if grid.len() != 20000 {
-        return refused(state, 1);
+        return refused(state, Refusal::ReceiverGridLength);
     }
     let f = state.frame;
-    let digits = state.digits;
-    if is_payload_here(f, state.marks, digits, b) {
+    if is_payload_here(state, b) {
         grid[2000 * ((f.due - 1) as usize) + ((f.place - 3) as usize)] = b;
         return CallResult {
             state: advanced_state(state, f.place + 1, f.check ^ b, pushed(state.seen, b), 5),
@@ -58,16 +59,13 @@ pub fn byte_call(state: State, grid: &mut [u8], b: u8) -> CallResult
         };
     }
     if !is_possible(state) {
-        return refused(state, 2);
+        return refused(state, Refusal::ImpossibleState);
     }
     let d = decide(state, b);
-    let effect = d.effect;
-    apply(grid, effect, b);
-    let next = d.next;
-    let answer = d.answer;
+    apply(grid, d.effect, b);
     CallResult {
-        state: next,
-        answer,
+        state: d.next,
+        answer: d.answer,
         count: 1,
     }
 }

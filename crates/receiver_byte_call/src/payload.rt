@@ -13,53 +13,37 @@ use text_lengths::block::data_block_length;
 // Whether a byte is payload of the data text that is under way and due. Where it is, the state is
 // possible (01, row 2, and Requests 101 and 111); the first tests suffice for a byte outside a payload.
 // Notice 49, 4(1)(1-1)(c)(エ) and (d)(ウ), 4(1)(1-2)(c)(エ) and (d)(ウ), 4(2)(c)(エ) and (d)(ウ)
-pub(crate) fn is_payload_here(f: Frame, marks: u32, digits: [u8; 12], b: u8) -> bool
-    ensures { result ≡ is_payload_here f marks digits b }
+#[tactic(auto, unfolding(crate::specs::InPayload::is_payload_here))]
+pub(crate) fn is_payload_here(s: State, b: u8) -> bool
+    ensures { result ≡ is_payload_here s.frame s.marks s.digits b }
 {
-    if f.place < 3 {
-        return false;
-    }
-    if f.due == 0 {
-        return false;
-    }
-    if 10 < f.due {
-        return false;
-    }
-    if f.count != 5 {
-        return false;
-    }
-    if data_block_length(f.part) <= f.place {
-        return false;
-    }
-    if f.kind != kind_of(f.part, f.due) {
-        return false;
-    }
-    let framed = is_kind(f.kind) & is_picture_code(f.picture);
-    framed & are_marks(marks) & none_waits(digits) & is_payload_byte(f.part, b)
+    let f = s.frame;
+    (3 <= f.place)
+        && (f.due != 0)
+        && (f.due <= 10)
+        && (f.count == 5)
+        && (f.place < data_block_length(f.part))
+        && (f.kind == kind_of(f.part, f.due))
+        && is_kind(f.kind)
+        && is_picture_code(f.picture)
+        && are_marks(s.marks)
+        && none_waits(s.digits)
+        && is_payload_byte(f.part, b)
 }
 
 // The state further on: place, check byte and the bytes seen have moved
+#[tactic(auto, unfolding(crate::specs::InPayload::advanced_state))]
 pub fn advanced_state(s: State, place: u16, check: u8, seen: u64, count: u8) -> State
     ensures { result ≡ advanced_state s place check seen count }
 {
-    let f = s.frame;
-    let header = s.header;
-    let modes = s.modes;
-    let digits = s.digits;
     State {
         seen,
         frame: Frame {
             place,
-            kind: f.kind,
-            picture: f.picture,
-            part: f.part,
-            due: f.due,
             check,
             count,
+            ..s.frame
         },
-        header,
-        modes,
-        digits,
-        marks: s.marks,
+        ..s
     }
 }

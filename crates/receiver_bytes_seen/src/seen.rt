@@ -4,6 +4,7 @@ ghost use Rattle.receiver_spec.specs.Seen.{ends_opening, due_byte};
 ghost use Rattle.receiver_bytes_seen.specs.AsNumber.{seen_of, push_seen, push_count};
 
 // The bytes seen with one more; five of them are kept
+#[tactic(auto, unfolding(crate::specs::AsNumber::push_seen))]
 pub fn pushed(seen: u64, b: u8) -> u64
     ensures { result ≡ push_seen seen b }
 {
@@ -11,13 +12,16 @@ pub fn pushed(seen: u64, b: u8) -> u64
 }
 
 // How many bytes are seen then
+#[tactic(auto, unfolding(crate::specs::AsNumber::push_count))]
 pub fn counted(count: u8) -> u8
     ensures { result ≡ push_count count }
 {
-    if count < 5 { count + 1 } else { 5 }
+    count.saturating_add(1).min(5)
 }
 
 // Whether an opening ends with this byte. Notice 49, 4(1)(1-1)(c)(ア)
+// Stays two numbers: the bytes seen and their count are public fields of two structs of
+// receiver_state, State and Frame.
 pub fn ends_opening(seen: u64, count: u8, b: u8) -> bool
     ensures { result ≡ ends_opening (seen_of seen count) b }
 {

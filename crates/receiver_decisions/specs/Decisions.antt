@@ -8,6 +8,7 @@ use Rattle.receiver_spec.specs.Receiver.{Step}
 use Rattle.receiver_state.specs.Meaning.{state_of, number_of, applied}
 use Rattle.receiver_state.specs.declared.state.Frame.{Frame}
 use Rattle.receiver_state.specs.declared.state.State.{State}
+use Rattle.receiver_state.specs.declared.answer.Row.{Row}
 use Rattle.receiver_state.specs.declared.answer.Answer.{Answer}
 use Rattle.receiver_state.specs.declared.answer.Answer.TheVariants.{Quiet, Dropped}
 use Rattle.receiver_state.specs.declared.grid.Effect.{Effect}
@@ -18,6 +19,10 @@ use Rattle.receiver_decisions.specs.declared.decision.Decision.{Decision}
 abbrev pub frame : ℕ → ℕ → ℕ → ℕ → ℕ → ℕ → ℕ → Frame
 frame place kind picture part due check count =
     record { place = place; kind = kind; picture = picture; part = part; due = due; check = check; count = count }
+
+-- between texts, with this part and due text; the bytes seen stay
+abbrev pub between : Frame → ℕ → ℕ → Frame
+between f part due = frame 0 0 0 part due 0 f.count
 
 abbrev pub state : ℕ → Frame → Header → List ℕ → List ℕ → ℕ → State
 state seen f h m digits marks = record { seen = seen; frame = f; header = h; modes = m; digits = digits; marks = marks }
@@ -35,8 +40,8 @@ unfoldable pub begins : State → Frame → ℕ → Answer → Effect → Decisi
 begins s f picture a e = decision (state s.seen f (begun_header picture) no_modes no_digits s.marks) a e
 
 -- dropped: as fresh with the same marks (Request 101), but the bytes seen are kept
-unfoldable pub drops : State → ℕ → Decision
-drops s n = begins s (frame 0 0 0 0 0 0 s.frame.count) 0 (Dropped n) Clear
+unfoldable pub drops : State → Row → Decision
+drops s row = begins s (between s.frame 0 0) 0 (Dropped row) Clear
 
 -- answer 0, with the grid as it is
 abbrev pub quietly : State → Frame → Decision

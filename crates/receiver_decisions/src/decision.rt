@@ -1,9 +1,9 @@
 // What a byte leaves: the next state, its answer, and its effect on the grid. Every decision about a
 // byte is made by one of the functions here.
 ghost use Rattle.std.specs.Prelude.{◌≡◌};
-ghost use Rattle.receiver_decisions.specs.Decisions.{goes_on, begins, drops};
+ghost use Rattle.receiver_decisions.specs.Decisions.{between, goes_on, quietly, begins, drops};
 
-use receiver_state::answer::Answer;
+use receiver_state::answer::{Answer, Row};
 use receiver_state::grid::Effect;
 use receiver_state::state::{Frame, State};
 use text::header::Header;
@@ -16,22 +16,27 @@ pub struct Decision {
     pub effect: Effect,
 }
 
+// Between texts: the part open and its due text; the bytes seen stay
+pub fn between(f: Frame, part: u8, due: u8) -> Frame
+    ensures { result ≡ between f part due }
+{
+    Frame {
+        place: 0,
+        kind: 0,
+        picture: 0,
+        part,
+        due,
+        check: 0,
+        ..f
+    }
+}
+
 // Header, modes, waiting digits and marks stay, and the receiver stands elsewhere
+#[tactic(auto, unfolding(crate::specs::Decisions::goes_on))]
 pub fn goes_on(s: State, frame: Frame, answer: Answer, effect: Effect) -> Decision
     ensures { result ≡ goes_on s frame answer effect }
 {
-    let header = s.header;
-    let modes = s.modes;
-    let digits = s.digits;
-    let marks = s.marks;
-    let next = State {
-        seen: s.seen,
-        frame,
-        header,
-        modes,
-        digits,
-        marks,
-    };
+    let next = State { frame, ..s };
     Decision {
         next,
         answer,
@@ -39,9 +44,17 @@ pub fn goes_on(s: State, frame: Frame, answer: Answer, effect: Effect) -> Decisi
     }
 }
 
+// The same with answer 0, and the grid as it is
+pub fn quietly(s: State, frame: Frame) -> Decision
+    ensures { result ≡ quietly s frame }
+{
+    goes_on(s, frame, Answer::Quiet, Effect::Keep)
+}
+
 // Header and modes are 0, no digit waits (Request 111), and the picture code enters; the marks stay
 // (Request 101).
 // Notice 49, 4(1)(1-1)(c)(イ)
+#[tactic(auto, unfolding(crate::specs::Decisions::begins, receiver_spec::specs::Contents::begun_header))]
 pub fn begins(s: State, frame: Frame, picture: u8, answer: Answer, effect: Effect) -> Decision
     ensures { result ≡ begins s frame picture answer effect }
 {
@@ -54,12 +67,11 @@ pub fn begins(s: State, frame: Frame, picture: u8, answer: Answer, effect: Effec
         noecho: false,
     };
     let next = State {
-        seen: s.seen,
         frame,
         header,
         modes: [0; 8],
         digits: [0; 12],
-        marks: s.marks,
+        ..s
     };
     Decision {
         next,
@@ -70,18 +82,10 @@ pub fn begins(s: State, frame: Frame, picture: u8, answer: Answer, effect: Effec
 
 // Dropped: state and grid are as fresh with the same marks, but the bytes seen are kept (01,
 // "Dropped", and Request 101)
-pub fn drops(s: State, n: u8) -> Decision
-    ensures { result ≡ drops s n }
+#[tactic(auto, unfolding(crate::specs::Decisions::drops))]
+pub fn drops(s: State, row: Row) -> Decision
+    ensures { result ≡ drops s row }
 {
-    let f = s.frame;
-    let frame = Frame {
-        place: 0,
-        kind: 0,
-        picture: 0,
-        part: 0,
-        due: 0,
-        check: 0,
-        count: f.count,
-    };
-    begins(s, frame, 0, Answer::Dropped(n), Effect::Clear)
+    let frame = between(s.frame, 0, 0);
+    begins(s, frame, 0, Answer::Dropped(row), Effect::Clear)
 }

@@ -16,6 +16,7 @@ fn four_bits(table: u64, code: u8) -> u32
 
 // Where a picture code stands in 01's list, counted from 0; some place below 20 for another byte.
 // The list goes by sixteens, which begin at places 0, 8, 14 and 18. Notice 49, 5(1)
+#[tactic(auto, unfolding(crate::specs::Places::place_of))]
 fn place_of(code: u8) -> u32
     ensures { result ≡ place_of code }
 {
@@ -50,6 +51,7 @@ pub fn mark_of(code: u8) -> u32
 }
 
 // Whether no mark beyond the twentieth is set (Request 101)
+#[tactic(auto, unfolding(receiver_spec::specs::Marks::are_marks))]
 pub fn are_marks(marks: u32) -> bool
     ensures { result ≡ are_marks marks }
 {
@@ -65,6 +67,7 @@ pub fn all_marks() -> u32
 
 // The marks of a receiver asked for with this number: none where one beyond the twentieth is set
 // (Request 101)
+#[tactic(auto, unfolding(receiver_spec::specs::Marks::marks_from))]
 pub fn marks_from(n: u32) -> u32
     ensures { result ≡ marks_from n }
 {
@@ -78,11 +81,5 @@ pub fn marks_from(n: u32) -> u32
 pub fn marks_set(marks: u32) -> u32
     ensures { result ≡ marks_set marks }
 {
-    let mut total = 0;
-    let mut i: u32 = 0;
-    while i < 20 {
-        total += (marks >> i) % 2;
-        i += 1;
-    }
-    total
+    (marks % 1048576).count_ones()
 }

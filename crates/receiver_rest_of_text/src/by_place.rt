@@ -1,72 +1,62 @@
 // A byte of a text whose kind has been read, by its place.
 ghost use Rattle.std.specs.Prelude.{◌≡◌, ◌<◌};
-ghost use Rattle.receiver_rest_of_text.specs.RestOfText.{block_decided, eor_decided, check_decided, text_decided};
+ghost use Rattle.receiver_rest_of_text.specs.RestOfText.{block_decided, expected_decided, text_decided};
 
-use crate::frames::advanced;
 use crate::last::last_decided;
 use receiver_block_bytes::byte::enter_byte;
-use receiver_decisions::decision::{Decision, drops, goes_on};
-use receiver_state::answer::Answer;
-use receiver_state::grid::Effect;
-use receiver_state::state::State;
+use receiver_decisions::decision::{Decision, drops, goes_on, quietly};
+use receiver_state::answer::{Answer, Row};
+use receiver_state::state::{Frame, State};
 use text_lengths::block::block_length;
 
 // A block byte from byte 3 on. Row 18: it breaks its rule.
 // Notice 49, 4(1)(1-1)(c)(イ) to (エ), (d)(イ) and (ウ), 4(1)(1-2)(c)(エ) and (d)(ウ),
 // 4(2)(c)(エ) and (d)(ウ)
+#[tactic(auto, unfolding(crate::specs::RestOfText::block_decided))]
 fn block_decided(s: State, b: u8) -> Decision
     requires { s.frame.place < 65535 }
     ensures { result ≡ block_decided s b }
 {
-    let f = s.frame;
-    let before = s.header;
-    let modes_before = s.modes;
-    let digits_before = s.digits;
-    let e = enter_byte(f.kind, before, modes_before, digits_before, f.place, b);
-    if !e.kept {
-        return drops(s, 18);
-    }
-    let header = e.header;
+    let Some(e) = enter_byte(s, b) else {
+        return drops(s, Row::BlockByte);
+    };
+    // Stays two locals: an array that is a field goes into no literal straight
     let modes = e.modes;
     let digits = e.digits;
-    let effect = e.effect;
     let entered = State {
-        seen: s.seen,
-        frame: f,
-        header,
+        header: e.header,
         modes,
         digits,
-        marks: s.marks,
+        ..s
     };
-    goes_on(entered, advanced(f, f.check ^ b), Answer::Quiet, effect)
+    let frame = Frame {
+        place: s.frame.place + 1,
+        check: s.frame.check ^ b,
+        ..s.frame
+    };
+    goes_on(entered, frame, Answer::Quiet, e.effect)
 }
 
-// The byte after the block. Row 19: not `FE`. Notice 49, 4(1)(1-1)(c)(ア)
-fn eor_decided(s: State, b: u8) -> Decision
+// A byte behind the block that must be the expected one: the text goes on with this check byte, or the
+// row drops. Notice 49, 4(1)(1-1)(c)(ア)
+fn expected_decided(s: State, b: u8, expected: u8, check: u8, row: Row) -> Decision
     requires { s.frame.place < 65535 }
-    ensures { result ≡ eor_decided s b }
+    ensures { result ≡ expected_decided s b expected check row }
 {
-    let f = s.frame;
-    if b == 0xFE {
-        return goes_on(s, advanced(f, f.check ^ b), Answer::Quiet, Effect::Keep);
+    if b != expected {
+        return drops(s, row);
     }
-    drops(s, 19)
+    let frame = Frame {
+        place: s.frame.place + 1,
+        check,
+        ..s.frame
+    };
+    quietly(s, frame)
 }
 
-// The check byte. Row 20: wrong. Notice 49, 4(1)(1-1)(c)(ア)
-fn check_decided(s: State, b: u8) -> Decision
-    requires { s.frame.place < 65535 }
-    ensures { result ≡ check_decided s b }
-{
-    let f = s.frame;
-    if b == f.check {
-        return goes_on(s, advanced(f, f.check), Answer::Quiet, Effect::Keep);
-    }
-    drops(s, 20)
-}
-
-// From the kind on, by place: block, `FE`, check byte, `FF`.
+// From the kind on, by place: block, `FE` (row 19), check byte (row 20), `FF`.
 // Notice 49, 4(1)(1-1)(b) and (c)(ア), 4(1)(1-2)(b), 4(2)(b)
+#[tactic(auto, using(text_laws::proofs::KindTable::block_most), unfolding(crate::specs::RestOfText::text_decided, crate::specs::RestOfText::eor_decided, crate::specs::RestOfText::check_decided))]
 pub fn text_decided(s: State, b: u8) -> Decision
     ensures { result ≡ text_decided s b }
 {
@@ -76,10 +66,10 @@ pub fn text_decided(s: State, b: u8) -> Decision
         return block_decided(s, b);
     }
     if f.place == block {
-        return eor_decided(s, b);
+        return expected_decided(s, b, 0xFE, f.check ^ b, Row::NotFE);
     }
     if f.place == block + 1 {
-        return check_decided(s, b);
+        return expected_decided(s, b, f.check, f.check, Row::WrongCheckByte);
     }
     last_decided(s, b)
 }

@@ -1,6 +1,5 @@
 // Layer 2: a byte of a text whose kind has been read.
 #![tactic(auto)]
 
-mod frames; // where the receiver stands behind the byte
 mod last; // the text's last byte
 pub mod by_place; // block, `FE`, check byte, `FF`

@@ -17,19 +17,13 @@ use receiver_step::decide::decide;
 use receiver_stretch_payload::ahead::payload_ahead;
 use receiver_stretch_start_end::ahead::edge_ahead;
 use receiver_stretches::stretch::StretchResult;
+use refusals::refusal::Refusal;
 
 // Whether an answer is 0
 fn is_quiet(a: Answer) -> bool
     ensures { result ≡ is_quiet a }
 {
-    match a {
-        Answer::Quiet => true,
-        Answer::Begun => false,
-        Answer::Taken => false,
-        Answer::Complete(_) => false,
-        Answer::Dropped(_) => false,
-        Answer::Refused(_) => false,
-    }
+    matches!(a, Answer::Quiet)
 }
 
 // Past the stretch that begins here: bytes between texts and a whole start or end text, or payload
@@ -51,33 +45,30 @@ fn take_bytes(state: State, grid: &mut [u8], bytes: &[u8]) -> CallResult
 {
     let first = past_stretch(state, grid, bytes);
     let mut s = first.state;
-    let mut i = first.at;
-    while i < bytes.len() {
-        let b = bytes[i];
-        let d = decide(s, b);
-        let effect = d.effect;
-        apply(grid, effect, b);
+    let mut rest = &bytes[first.at..];
+    while let Some((b, behind)) = rest.split_first() {
+        let d = decide(s, *b);
+        apply(grid, d.effect, *b);
         s = d.next;
-        let answer = d.answer;
-        i += 1;
-        if !is_quiet(answer) {
+        rest = behind;
+        if !is_quiet(d.answer) {
             return CallResult {
                 state: s,
-                answer,
-                count: i,
+                answer: d.answer,
+                count: bytes.len() - rest.len(),
             };
         }
         let f = s.frame;
         if (f.place == 3) | (f.place == 0) {
-            let on = past_stretch(s, grid, &bytes[i..]);
+            let on = past_stretch(s, grid, rest);
             s = on.state;
-            i += on.at;
+            rest = &rest[on.at..];
         }
     }
     CallResult {
         state: s,
         answer: Answer::Quiet,
-        count: i,
+        count: bytes.len(),
     }
 }
 
@@ -88,10 +79,10 @@ pub fn slice_call(state: State, grid: &mut [u8], bytes: &[u8]) -> CallResult
     ensures seen_value { result.state.seen ≡ seen_after state.seen (take result.count bytes.now) }
 {
     if grid.len() != 20000 {
-        return refused(state, 1);
+        return refused(state, Refusal::ReceiverGridLength);
     }
     if !is_possible(state) {
-        return refused(state, 2);
+        return refused(state, Refusal::ImpossibleState);
     }
     take_bytes(state, grid, bytes)
 }

@@ -4,7 +4,7 @@ ghost use Rattle.text.specs.Part.{zeros};
 ghost use Rattle.receiver_state.specs.Meaning.{applied_to};
 
 // What a byte does to the grid: nothing, clear it, or enter at a place.
-#[derive(Clone, Copy)]
+#[derive(Clone, Copy, Debug, PartialEq, Eq)]
 pub enum Effect {
     Keep,
     Clear,
@@ -15,11 +15,7 @@ pub enum Effect {
 pub fn clear(grid: &mut [u8])
     ensures { grid.new ≡ zeros (length grid.old) }
 {
-    let mut i = 0;
-    while i < grid.len() {
-        grid[i] = 0;
-        i += 1;
-    }
+    grid.fill(0);
 }
 
 // Keep it, clear it, or enter the byte
@@ -28,9 +24,7 @@ pub fn apply(grid: &mut [u8], effect: Effect, b: u8)
 {
     match effect {
         Effect::Keep => {}
-        Effect::Clear => {
-            clear(grid);
-        }
+        Effect::Clear => clear(grid),
         Effect::Enter(at) => {
             if at < grid.len() {
                 grid[at] = b;

@@ -11,22 +11,12 @@ use text_kinds::table::is_start_kind;
 pub fn none_waits(digits: [u8; 12]) -> bool
     ensures { result ≡ every (λ d. eqb d 0) digits }
 {
-    (digits[0] == 0)
-        & (digits[1] == 0)
-        & (digits[2] == 0)
-        & (digits[3] == 0)
-        & (digits[4] == 0)
-        & (digits[5] == 0)
-        & (digits[6] == 0)
-        & (digits[7] == 0)
-        & (digits[8] == 0)
-        & (digits[9] == 0)
-        & (digits[10] == 0)
-        & (digits[11] == 0)
+    digits == [0; 12]
 }
 
 // Whether the digits may wait here: each is 9 at most at places 9 to 23 of a start text, and 0
 // elsewhere. Request 111
+#[tactic(auto, unfolding(crate::specs::DigitsFit::digits_fit))]
 pub(crate) fn digits_fit(f: Frame, digits: [u8; 12]) -> bool
     ensures { result ≡ digits_fit f digits }
 {

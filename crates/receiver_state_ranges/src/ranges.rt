@@ -13,6 +13,7 @@ use text_lengths::block::block_length;
 
 // No part open and due text 0, or a part and one of its texts, the start aside.
 // Notice 49, 4(1)(1-1)(a), 4(1)(1-2)(a), 4(2)(a)
+#[tactic(auto, unfolding(receiver_spec::specs::State::is_due))]
 fn is_due(part: u8, due: u8) -> bool
     ensures { result ≡ is_due part due }
 {
@@ -25,6 +26,7 @@ fn is_due(part: u8, due: u8) -> bool
 // Whether place, kind and picture code fit each other and the part open.
 // Notice 49, 4(1)(1-1)(b), (d)(イ) and (ウ), 4(1)(1-2)(b), (d)(イ) and (ウ),
 // 4(2)(b), (d)(イ) and (ウ), 5(1)
+#[tactic(auto, using(text_laws::proofs::KindTable::block_most), unfolding(crate::specs::FrameFits::frame_fits, general_laws::specs::Bytes::all_of, text::specs::Kinds::is_start_kind))]
 fn frame_fits(f: Frame) -> bool
     ensures { result ≡ frame_fits f }
 {
@@ -56,7 +58,6 @@ pub fn is_possible(s: State) -> bool
     ensures { result ≡ is_possible (state_of s) }
 {
     let f = s.frame;
-    let digits = s.digits;
     let framed = (f.count <= 5) & is_due(f.part, f.due) & frame_fits(f);
-    framed & are_marks(s.marks) & digits_fit(f, digits)
+    framed & are_marks(s.marks) & digits_fit(f, s.digits)
 }

@@ -18,8 +18,10 @@ use Rattle.receiver_spec.specs.Contents.{begun_header}
 use Rattle.receiver_spec.specs.Receiver as R
 use Rattle.receiver_spec.specs.Receiver.{step}
 use Rattle.receiver_bytes_seen.specs.AsNumber.{seen_of, push_seen, push_count}
-use Rattle.receiver_state.specs.Meaning.{state_of, applied, number_of}
+use Rattle.receiver_state.specs.Meaning.{state_of, row_number, applied}
 use Rattle.receiver_state.specs.declared.state.State.{State}
+use Rattle.receiver_state.specs.declared.answer.Row.{Row}
+use Rattle.receiver_state.specs.declared.answer.Row.TheVariants.{NotDueByte, NoPictureCode, NoKind, NotDueKind, OtherPicture, UnmarkedPicture}
 use Rattle.receiver_decisions.specs.Decisions.{goes_on, begins, drops, meaning}
 use Rattle.receiver_rest_of_text.specs.RestOfText.{text_decided}
 use Rattle.receiver_rest_of_text.proofs.Laws as rest-of-text
@@ -34,40 +36,40 @@ module _ (s : State) (g : List ℕ) (b : ℕ) where
   abbrev u : List ℕ
   u = seen_of (push_seen s.seen b) (push_count s.frame.count)
 
-  lost_same : (n : ℕ) → Means g b (drops t n) (R.drops n (state_of s) u)
+  lost_same : (row : Row) → Means g b (drops t row) (R.drops (row_number row) (state_of s) u)
   unfolding pushed_state
-  lost_same n = rest-of-text.lost_same t g b n
+  lost_same row = rest-of-text.lost_same t g b row
 
   opened_same : Means g b (opened_text t) (R.opened (state_of s) g u)
-  unfolding opened_text goes_on begins begun_header number_of applied pushed_state R.opened
+  unfolding opened_text goes_on begins begun_header applied pushed_state R.opened
   opened_same = both_read (eqb s.frame.place 0) reads reads
 
   gap_same : Means g b (gap_decided t (due_byte (seen_of s.seen s.frame.count)) b) (R.gap_byte (state_of s) g u b)
-  unfolding gap_decided goes_on number_of applied pushed_state R.gap_byte
+  unfolding gap_decided goes_on applied pushed_state R.gap_byte
   gap_same =
-      both_read (eqb s.frame.part 0) reads (both_read (eqb b (due_byte (seen_of s.seen s.frame.count))) reads (lost_same 12))
+      both_read (eqb s.frame.part 0) reads (both_read (eqb b (due_byte (seen_of s.seen s.frame.count))) reads (lost_same NotDueByte))
 
   picture_same : Means g b (picture_decided t b) (R.picture_byte (state_of s) g u b)
-  unfolding picture_decided goes_on onward number_of applied pushed_state R.picture_byte
+  unfolding picture_decided goes_on onward applied pushed_state R.picture_byte
   picture_same =
       by_test (is_picture_code b)
-      (λ e. by_test (is_marked s.marks b) (λ m. rw (e, m) reads) (λ m. rw (e, m) (lost_same 51)))
-      (λ e. rw (e, unlisted_unmarked s.marks b e) (lost_same 13))
+      (λ e. by_test (is_marked s.marks b) (λ m. rw (e, m) reads) (λ m. rw (e, m) (lost_same UnmarkedPicture)))
+      (λ e. rw (e, unlisted_unmarked s.marks b e) (lost_same NoPictureCode))
 
   -- a start kind, and another
   start_same : is_start_kind b ≡ true → Means g b (kind_decided t b) (R.kind_byte (state_of s) g u b)
-  unfolding kind_decided start_decided begins begun_header number_of applied pushed_state R.kind_byte
+  unfolding kind_decided start_decided begins begun_header applied pushed_state R.kind_byte
   start_same e = rw (e, start_is_kind b e) (both_read (eqb s.frame.part 0) reads reads)
 
   other_same : is_start_kind b ≡ false → Means g b (kind_decided t b) (R.kind_byte (state_of s) g u b)
-  unfolding kind_decided kind_row goes_on onward number_of applied pushed_state R.kind_byte
+  unfolding kind_decided kind_row goes_on onward applied pushed_state R.kind_byte
   other_same e =
       by_test (is_kind b)
-      (λ k. by_test (eqb s.frame.part 0) (λ p. rw (e, k, p) (lost_same 16))
+      (λ k. by_test (eqb s.frame.part 0) (λ p. rw (e, k, p) (lost_same NotDueKind))
       (λ p. by_test (eqb b (kind_of s.frame.part s.frame.due))
-      (λ d. by_test (eqb s.frame.picture s.header.picture) (λ q. rw (e, k, p, d, q) reads) (λ q. rw (e, k, p, d, q) (lost_same 17)))
-      (λ d. rw (e, k, p, d) (lost_same 16))))
-      (λ k. rw (e, k) (lost_same 14))
+      (λ d. by_test (eqb s.frame.picture s.header.picture) (λ q. rw (e, k, p, d, q) reads) (λ q. rw (e, k, p, d, q) (lost_same OtherPicture)))
+      (λ d. rw (e, k, p, d) (lost_same NotDueKind))))
+      (λ k. rw (e, k) (lost_same NoKind))
 
   kind_same : Means g b (kind_decided t b) (R.kind_byte (state_of s) g u b)
   kind_same = by_test (is_start_kind b) start_same other_same

@@ -10,43 +10,31 @@ use receiver_rest_of_text::by_place::text_decided;
 use receiver_state::state::{Frame, State};
 
 // The state with the byte among the bytes seen
+#[tactic(auto, unfolding(crate::specs::Decide::pushed_state))]
 fn pushed_state(s: State, b: u8) -> State
     ensures { result ≡ pushed_state s b }
 {
-    let f = s.frame;
-    let header = s.header;
-    let modes = s.modes;
-    let digits = s.digits;
     State {
         seen: pushed(s.seen, b),
         frame: Frame {
-            place: f.place,
-            kind: f.kind,
-            picture: f.picture,
-            part: f.part,
-            due: f.due,
-            check: f.check,
-            count: counted(f.count),
+            count: counted(s.frame.count),
+            ..s.frame
         },
-        header,
-        modes,
-        digits,
-        marks: s.marks,
+        ..s
     }
 }
 
 // One byte: an opening is looked for before every other check. Notice 49, 4(1)(1-1)(c)(ア)
+#[tactic(auto, unfolding(crate::specs::Decide::decide))]
 pub fn decide(s: State, b: u8) -> Decision
     ensures { result ≡ decide s b }
 {
     let f = s.frame;
-    let place = f.place;
     let t = pushed_state(s, b);
-    let opens = ends_opening(s.seen, f.count, b);
-    if opens {
+    if ends_opening(s.seen, f.count, b) {
         return opened_text(t);
     }
-    match place {
+    match f.place {
         0 => gap_decided(t, due_byte(s.seen, f.count), b),
         1 => picture_decided(t, b),
         2 => kind_decided(t, b),

@@ -2,25 +2,23 @@
 use mathlib.Core.Path.{◌≡◌, refl, sym, ap, ◌∙◌}
 use mathlib.Core.Bool.{true, false}
 use mathlib.Core.List.{List, [], ◌∷◌}
-use Prim.Native.Nat.{ℕ, suc, ◌+◌, ◌≤◌, ◌<◌}
+use Prim.Native.Nat.{ℕ, zero, suc, ◌+◌, ◌≤◌, ◌<◌}
 use native.Mathlib.Nat.{add-zero, zero-add}
 use native.Mathlib.Omega.{arith}
 use lib.Dec.{leb, ltb}
-use lib.ListN.{length, get_or, set, take, drop}
-use lib.Seq.{sets, take_all}
+use lib.ListN.{length, set, take}
+use lib.Seq.{sets}
 use borrow.Author.Tests.{leb-true, ltb-true, not-true}
 use Rattle.general_laws.specs.Bytes.{every}
 use Rattle.text.specs.Text.{xor_all}
 use Rattle.text.specs.Kinds.{is_start_kind, is_end_kind, part_of, text_number, block_length}
 use Rattle.text.specs.DataBlock.{is_payload_byte}
-use Rattle.general_laws.proofs.Lists.{longer, from_on}
 use Rattle.general_laws.proofs.Tests.{and_split, by_test}
 use Rattle.text_laws.proofs.KindTable.{block_most, data_number}
 use Rattle.receiver_spec.specs.Receiver.{◌⊕◌}
 use Rattle.receiver_spec.proofs.Laws.{xor_cons, xor_nil}
 use Rattle.receiver_bytes_seen.specs.AsNumber.{push_seen, push_count}
 use Rattle.receiver_bytes_seen.specs.Behind.{seen_after, count_after}
-use Rattle.receiver_bytes_seen.proofs.Laws.{count_stays_5}
 use Rattle.receiver_state.specs.Meaning.{applied}
 use Rattle.receiver_state.specs.declared.state.Frame.{Frame}
 use Rattle.receiver_state.specs.declared.state.State.{State}
@@ -28,7 +26,6 @@ use Rattle.receiver_byte_call.specs.Returned.{is_quiet}
 use Rattle.receiver_byte_call.specs.InPayload.{advanced_state}
 use Rattle.receiver_byte_call.proofs.Laws.{grid_place, advanced_step, advanced_first}
 use Rattle.receiver_stretches.specs.Run.{passed, run}
-use Rattle.receiver_stretches.proofs.Laws.{passed_byte, passed_first}
 use Rattle.receiver_stretch_payload.specs.Ahead.{is_in_payload, allowed_prefix}
 
 -- what the test says
@@ -52,10 +49,12 @@ in_payload_has f h =
     }
 
 -- the payload of data text k, 1 to 10, has its place in the grid
-pub numbers : (f : Frame) → f.kind < 256 → InPayload f → (1 ≤ text_number f.kind) × (text_number f.kind ≤ 10) × (f.place < 2003) × (block_length f.kind ≤ 2003)
-numbers f small p =
+pub bounds : (f : Frame) → f.kind < 256 → is_in_payload f ≡ true
+    → (1 ≤ text_number f.kind) × (text_number f.kind ≤ 10) × (3 ≤ f.place) × (f.place < block_length f.kind) × (block_length f.kind ≤ 2003)
+bounds f small h =
+    let p = in_payload_has f h in
     let (one, ten) = data_number f.kind small p.start p.end (omega (arith, p.low, p.high)) in
-    (one, ten, omega (arith, p.high, block_most f.kind), block_most f.kind)
+    (one, ten, p.low, p.high, block_most f.kind)
 
 -- ---- how many keep the rule
 
@@ -70,41 +69,18 @@ module _ (p : ℕ) where
   allowed_most [] = omega arith
   allowed_most (b ∷ xs) = by_test (is_payload_byte p b) (λ t. rw t (omega (arith, allowed_most xs))) (λ t. rw t (omega arith))
 
-  -- at byte i, which keeps the rule or not, and at the end
-  module _ (bytes : List ℕ) (i : ℕ) (before : allowed_prefix p bytes ≡ i + allowed_prefix p (drop i bytes)) where
-    abbrev here : i < length bytes → drop i bytes ≡ get_or bytes i 0 ∷ drop (i + 1) bytes
-    here l = from_on bytes i (i + 1) refl (omega (arith, l))
-
-    pub allowed_on : i < length bytes → is_payload_byte p (get_or bytes i 0) ≡ true → allowed_prefix p bytes ≡ i + 1 + allowed_prefix p (drop (i + 1) bytes)
-    unfolding allowed_prefix
-    allowed_on l t = before ∙ ap (λ xs. i + allowed_prefix p xs) (here l) ∙ rw t (omega arith)
-
-    pub allowed_stop : i < length bytes → is_payload_byte p (get_or bytes i 0) ≡ false → allowed_prefix p bytes ≡ i
-    unfolding allowed_prefix
-    allowed_stop l t = before ∙ ap (λ xs. i + allowed_prefix p xs) (here l) ∙ rw t (add-zero i)
-
-    pub allowed_end : drop i bytes ≡ [] → allowed_prefix p bytes ≡ i
-    unfolding allowed_prefix
-    allowed_end e = before ∙ ap (λ xs. i + allowed_prefix p xs) e ∙ add-zero i
+  -- those that do, of the first n bytes
+  pub allowed_within : (n : ℕ) (xs : List ℕ) → every (is_payload_byte p) (take (allowed_prefix p (take n xs)) xs) ≡ true
+  unfolding every allowed_prefix
+  allowed_within zero xs = refl
+  allowed_within (suc n) [] = refl
+  allowed_within (suc n) (b ∷ xs) = by_test (is_payload_byte p b) (λ t. rw t (rw t (allowed_within n xs))) (λ t. rw t)
 
 -- ---- what they do
 
 module _ (s : State) (h : InPayload s.frame) where
   abbrev k : ℕ
   k = s.frame.kind
-
-  -- one byte more
-  pub payload_byte_passed :
-      (g bytes grid : List ℕ) (place check seen count i : ℕ)
-      → run s g (take i bytes) 0 ≡ passed (advanced_state s place check seen count) grid i → i < length bytes
-      → 3 ≤ place → place < block_length k → is_payload_byte (part_of k) (get_or bytes i 0) ≡ true
-      → run s g (take (i + 1) bytes) 0
-      ≡ passed (advanced_state s (place + 1) (check ⊕ get_or bytes i 0) (push_seen seen (get_or bytes i 0)) (push_count count)) (set grid (grid_place k place) (get_or bytes i 0)) (i + 1)
-  unfolding is_quiet applied
-  payload_byte_passed g bytes grid place check seen count i before l low high rule =
-      let b = get_or bytes i 0 in
-      let d = advanced_step s place check seen count b h.start h.end low high rule in
-      ap (λ xs. run s g xs 0) (sym (longer bytes i l)) ∙ passed_byte s g (take i bytes) 0 b before (rw d) ∙ rw d
 
   -- all of them
   next_spot : (place : ℕ) → 3 ≤ place → grid_place k (place + 1) ≡ suc (grid_place k place)
@@ -138,12 +114,7 @@ module _ (s : State) (h : InPayload s.frame) where
 
   -- the same, under the names that the code has for its parts
   pub payload_passed_on :
-      (bytes g : List ℕ) {grid : List ℕ} {check seen : ℕ} {t : State} → every (is_payload_byte (part_of k)) bytes ≡ true → s.frame.count ≡ 5
-      → s.frame.place + length bytes ≤ block_length k → grid ≡ sets g (grid_place k s.frame.place) bytes → check ≡ s.frame.check ⊕ xor_all bytes
-      → seen ≡ seen_after s.seen bytes → t ≡ advanced_state s (s.frame.place + length bytes) check seen 5
-      → passed t grid (length bytes) ≡ run s g (take (allowed_prefix (part_of k) bytes) bytes) 0
-  payload_passed_on bytes g rule five high e c v q =
-      rw (q, e, c, v)
-      (passed_first s g bytes (allowed_all (part_of k) bytes rule)
-      (ap (λ n. advanced_state s (s.frame.place + length bytes) (s.frame.check ⊕ xor_all bytes) (seen_after s.seen bytes) n) (sym (count_stays_5 bytes s.frame.count five)))
-      (ap (λ xs. run s g xs 0) (take_all (length bytes) bytes (omega arith)) ∙ whole_payload_passed bytes g rule high))
+      (xs g : List ℕ) {grid : List ℕ} {check n : ℕ} {t : State} → every (is_payload_byte (part_of k)) xs ≡ true → length xs ≡ n
+      → s.frame.place + n ≤ block_length k → grid ≡ sets g (grid_place k s.frame.place) xs → check ≡ s.frame.check ⊕ xor_all xs
+      → t ≡ advanced_state s (s.frame.place + n) check (seen_after s.seen xs) (count_after s.frame.count xs) → passed t grid n ≡ run s g xs 0
+  payload_passed_on xs g rule l high e c q = rw (q, e, c, sym l) (sym (whole_payload_passed xs g rule (omega (arith, l))))

@@ -1,15 +1,13 @@
-// The payload bytes that a slice begins with, where a data text's payload is under way: all at once,
-// or one by one up to the first that breaks its rule.
-ghost use Rattle.std.specs.Prelude.{◌≡◌, true, ◌+◌, ◌*◌, ◌-◌, ◌≤◌, min, length, take};
-ghost use Rattle.text.specs.Kinds.{part_of, text_number, block_length};
+// The payload bytes that a slice begins with, where a data text's payload is under way, many at once.
+ghost use Rattle.std.specs.Prelude.{◌≡◌, true, ◌+◌, ◌*◌, ◌-◌, ◌≤◌, take, not, position};
+ghost use Rattle.text.specs.Kinds.{text_number, block_length};
+ghost use Rattle.text.specs.DataBlock.{is_payload_byte};
 ghost use Rattle.receiver_stretches.specs.Run.{run, after_stretch};
 ghost use Rattle.receiver_stretch_payload.specs.Ahead.{is_in_payload, allowed_prefix, payload_ahead};
 
-use receiver_byte_call::payload::advanced_state;
-use receiver_bytes_seen::behind::{check_behind, seen_behind};
-use receiver_bytes_seen::seen::{counted, pushed};
+use receiver_bytes_seen::behind::check_behind;
 use receiver_state::state::{Frame, State};
-use receiver_stretches::stretch::StretchResult;
+use receiver_stretches::stretch::{StretchResult, state_behind};
 use text::bytes::put;
 use text::payload::{are_payload_bytes, is_payload_byte};
 use text_kinds::table::{is_end_kind, is_start_kind, part_of_kind, text_of_kind};
@@ -35,70 +33,23 @@ fn payload_base(f: Frame) -> usize
     2000 * ((text_of_kind(f.kind) - 1) as usize) + ((f.place - 3) as usize)
 }
 
-// Payload bytes one by one, as far as they keep their rule.
-// Notice 49, 4(1)(1-1)(c)(エ) and (d)(ウ), 4(1)(1-2)(c)(エ) and (d)(ウ), 4(2)(c)(エ) and (d)(ウ)
-fn payload_run(s: State, grid: &mut [u8], bytes: &[u8]) -> StretchResult
-    requires frame_value { is_in_payload s.frame ≡ true }
-    requires bytes_bound { s.frame.place + length bytes.now ≤ block_length s.frame.kind }
-    requires grid_len { length grid.old ≡ 20000 }
-    ensures { after_stretch result grid.new ≡ run s grid.old (take (allowed_prefix (part_of s.frame.kind) bytes.now) bytes.now) 0 }
+// The first byte that breaks its part's rule. Notice 49, 4(1)(1-1)(d)(ウ), 4(1)(1-2)(d)(ウ), 4(2)(d)(ウ)
+fn first_broken(part: u8, bytes: &[u8]) -> Option<usize>
+    ensures { result ≡ position (λ b. not (is_payload_byte part b)) bytes.now }
 {
-    let f = s.frame;
-    let part = part_of_kind(f.kind);
-    let base = payload_base(f);
-    let mut check = f.check;
-    let mut count = f.count;
-    let mut seen = s.seen;
-    let mut i = 0;
-    while i < bytes.len() {
-        let b = bytes[i];
-        if !is_payload_byte(part, b) {
-            return StretchResult {
-                state: advanced_state(s, f.place + i as u16, check, seen, count),
-                at: i,
-            };
-        }
-        grid[base + i] = b;
-        seen = pushed(seen, b);
-        count = counted(count);
-        check = check ^ b;
-        i += 1;
-    }
-    StretchResult {
-        state: advanced_state(s, f.place + i as u16, check, seen, count),
-        at: i,
-    }
+    bytes.iter().position(|b| !is_payload_byte(part, *b))
 }
 
-// The same, all at once where every byte keeps its rule.
-// Notice 49, 4(1)(1-1)(c)(エ) and (d)(ウ), 4(1)(1-2)(c)(エ) and (d)(ウ), 4(2)(c)(エ) and (d)(ウ)
-fn payload_passed(s: State, grid: &mut [u8], bytes: &[u8]) -> StretchResult
-    requires frame_value { is_in_payload s.frame ≡ true }
-    requires bytes_bound { s.frame.place + length bytes.now ≤ block_length s.frame.kind }
-    requires grid_len { length grid.old ≡ 20000 }
-    ensures { after_stretch result grid.new ≡ run s grid.old (take (allowed_prefix (part_of s.frame.kind) bytes.now) bytes.now) 0 }
+// As many of these bytes, from the first on, as keep their part's rule. All are tested at once, without a way
+// out; only where one breaks the rule is it looked for.
+// Notice 49, 4(1)(1-1)(d)(ウ), 4(1)(1-2)(d)(ウ), 4(2)(d)(ウ)
+fn allowed_prefix(part: u8, bytes: &[u8]) -> usize
+    ensures { result ≡ allowed_prefix part bytes.now }
 {
-    let f = s.frame;
-    if (f.count != 5) | !are_payload_bytes(part_of_kind(f.kind), bytes) {
-        return payload_run(s, grid, bytes);
+    if are_payload_bytes(part, bytes) {
+        return bytes.len();
     }
-    put(grid, payload_base(f), bytes);
-    let check = check_behind(f.check, bytes);
-    let seen = seen_behind(s.seen, bytes);
-    let n = bytes.len();
-    StretchResult {
-        state: advanced_state(s, f.place + n as u16, check, seen, 5),
-        at: n,
-    }
-}
-
-fn least(a: usize, b: usize) -> usize
-    ensures { result ≡ min a b }
-{
-    if a < b {
-        return a;
-    }
-    b
+    first_broken(part, bytes).unwrap_or(bytes.len())
 }
 
 // Past the payload bytes that stand here, up to the block's end and as far as they keep their rule;
@@ -112,6 +63,12 @@ pub fn payload_ahead(s: State, grid: &mut [u8], bytes: &[u8]) -> StretchResult
         return StretchResult { state: s, at: 0 };
     }
     let left = (block_length(f.kind) - f.place) as usize;
-    let n = least(left, bytes.len());
-    payload_passed(s, grid, &bytes[..n])
+    let at = allowed_prefix(part_of_kind(f.kind), &bytes[..left.min(bytes.len())]);
+    let payload = &bytes[..at];
+    put(grid, payload_base(f), payload);
+    let check = check_behind(f.check, payload);
+    StretchResult {
+        state: state_behind(s, f.place + at as u16, check, payload),
+        at,
+    }
 }

@@ -3,20 +3,20 @@ use mathlib.Core.Path.{◌≡◌, refl, sym, ap, ap₂, ◌∙◌}
 use mathlib.Core.Logic.{◌⊎◌, inl, inr, ◌≢◌}
 use mathlib.Core.Bool.{true, false, not, ◌||◌}
 use mathlib.Core.List.{List, [], ◌∷◌}
-use Prim.Native.Nat.{ℕ, ◌+◌, ◌≤◌, ◌<◌}
+use Prim.Native.Nat.{ℕ, suc, ◌+◌, ◌≤◌, ◌<◌}
 use native.Mathlib.Nat.{add-zero}
 use native.Mathlib.Omega.{arith}
 use lib.Dec.{eqb}
 use lib.ListN.{length, get_or, take, drop}
-use borrow.Author.Tests.{eqb-true, eqb-false, eq-eqb, ne_eqb, not-true}
+use lib.Seq.{length-take-le}
+use borrow.Author.Tests.{eqb-true, eqb-false, eq-eqb, ne_eqb, not-true, not-false}
 use Rattle.text.specs.Text.{FD}
-use Rattle.general_laws.proofs.Lists.{longer, from_on}
-use Rattle.general_laws.proofs.Tests.{and_split}
+use Rattle.general_laws.proofs.Lists.{from_on}
+use Rattle.general_laws.proofs.Tests.{by_test, and_split, neither}
 use Rattle.receiver_spec.specs.Seen.{due_byte}
 use Rattle.receiver_spec.proofs.Laws.{only_fd}
 use Rattle.receiver_bytes_seen.specs.AsNumber.{seen_of, push_seen, push_count}
 use Rattle.receiver_bytes_seen.specs.Behind.{seen_after, count_after}
-use Rattle.receiver_bytes_seen.proofs.Laws.{seen_append, count_append}
 use Rattle.receiver_state.specs.Meaning.{applied}
 use Rattle.receiver_state.specs.declared.state.State.{State}
 use Rattle.receiver_state.specs.declared.answer.Answer.TheVariants.{Quiet}
@@ -26,9 +26,9 @@ use Rattle.receiver_step.specs.Decide.{gap_decided, pushed_state, decide}
 use Rattle.receiver_byte_call.specs.Returned.{is_quiet}
 use Rattle.receiver_byte_call.specs.InPayload.{advanced_state}
 use Rattle.receiver_byte_call.proofs.Laws.{advanced_first}
+use Rattle.receiver_stretches.specs.declared.stretch.StretchResult.{StretchResult}
 use Rattle.receiver_stretches.specs.Run.{passed, run}
-use Rattle.receiver_stretches.proofs.Laws.{passed_byte, passed_first}
-use Rattle.receiver_stretch_start_end.specs.Ahead.{is_idle, is_gap, idle_length, due_length, seen_on, Waited}
+use Rattle.receiver_stretch_start_end.specs.Ahead.{is_idle, is_gap, idle_length, due_length, wait_length, seen_on, waited_for, Waited}
 
 -- what an idle frame has, and one with a part open: nothing but part, due text and the count of bytes seen
 module _ (s : State) where
@@ -97,78 +97,92 @@ between_step s seen count b e h = go h.free
     go (inr (part, due)) =
         simp (only_fd (seen_of seen count) b (eqb-false b FD e), h.place, h.kind, h.picture, h.check, ne_eqb s.frame.part 0 part, eq-eqb b (due_byte (seen_of seen count)) due)
 
--- ---- i bytes of a slice so far, and where they led
+-- ---- bytes that are all free
 
-pub record WaitedSoFar (s : State) (bytes : List ℕ) (seen count i : ℕ) : Type 0 where
-  pub runs : (g : List ℕ) → run s g (take i bytes) 0 ≡ passed (seen_on s seen count) g i
-  pub seen_is : seen ≡ seen_after s.seen (take i bytes)
-  pub count_is : count ≡ count_after s.frame.count (take i bytes)
-  pub inside : i ≤ length bytes
+-- each of them, one behind the other
+pub data AllFree (s : State) : ℕ → ℕ → List ℕ → Type 0 where
+  free_none : {v n : ℕ} → AllFree s v n []
+  free_more : {v n b : ℕ} {xs : List ℕ} → eqb b FD ≡ false → Free s v n b → AllFree s (push_seen v b) (push_count n) xs → AllFree s v n (b ∷ xs)
 
-pub waited_none : (s : State) (bytes : List ℕ) → WaitedSoFar s bytes s.seen s.frame.count 0
-unfolding run seen_after count_after
-waited_none s bytes =
-    record { runs = λ g. ap (λ t. passed t g 0) (sym (advanced_first s)); seen_is = refl; count_is = refl; inside = omega arith }
+free_passed :
+    {s : State} {v n : ℕ} {xs : List ℕ} (g : List ℕ) (i : ℕ) → AllFree s v n xs
+    → run (seen_on s v n) g xs i ≡ passed (seen_on s (seen_after v xs) (count_after n xs)) g (i + length xs)
+unfolding run is_quiet applied seen_after count_after
+free_passed g i free_none = rw (add-zero i)
+free_passed {s} {v} {n} g i (free_more {b = b} {xs = xs} e f r) =
+    let far : i + 1 + length xs ≡ i + suc (length xs) = omega arith in
+    rw (between_step s v n b e f) (free_passed g (i + 1) r ∙ rw far)
 
-pub waited_byte :
-    (s : State) (bytes : List ℕ) (seen count i : ℕ) {more counted : ℕ} → WaitedSoFar s bytes seen count i → i < length bytes
-    → eqb (get_or bytes i 0) FD ≡ false → Free s seen count (get_or bytes i 0) → more ≡ push_seen seen (get_or bytes i 0) → counted ≡ push_count count
-    → WaitedSoFar s bytes more counted (i + 1)
-unfolding is_quiet applied seen_after count_after
-waited_byte s bytes seen count i before l e free m n =
-    let b = get_or bytes i 0 in
-    let d = between_step s seen count b e free in
-    record {
-      runs = λ g. ap (λ xs. run s g xs 0) (sym (longer bytes i l)) ∙ passed_byte s g (take i bytes) 0 b (before.runs g) (rw d) ∙ rw (d, m, n);
-      seen_is =
-          m ∙ ap (λ v. push_seen v b) before.seen_is ∙ sym (seen_append s.seen (take i bytes) (b ∷ []))
-          ∙ ap (seen_after s.seen) (longer bytes i l);
-      count_is =
-          n ∙ ap push_count before.count_is ∙ sym (count_append s.frame.count (take i bytes) (b ∷ []))
-          ∙ ap (count_after s.frame.count) (longer bytes i l);
-      inside = omega (arith, l);
-    }
+-- between parts, up to the next `FD`
+module _ (s : State) (h : is_idle s.frame ≡ true) where
+  idle_all : (v n : ℕ) (bytes : List ℕ) → AllFree s v n (take (idle_length bytes) bytes)
+  unfolding idle_length
+  idle_all v n [] = free_none
+  idle_all v n (b ∷ bytes) =
+      by_test (eqb b FD) (λ t. rw t free_none) (λ t. rw t (free_more t (idle_free s v n b h) (idle_all (push_seen v b) (push_count n) bytes)))
 
-pub waited_done : (s : State) (bytes : List ℕ) {seen count i n : ℕ} {t : State} → WaitedSoFar s bytes seen count i → n ≡ i → t ≡ seen_on s seen count
-    → Waited s n bytes (record { state = t; at = i })
-waited_done s bytes {seen} {count} {i} {n} waited e q =
-    let first = ap (λ k. take k bytes) (sym e) in
-    record {
-      long = sym e;
-      inside = omega (arith, e, waited.inside);
-      state_is = q ∙ ap₂ (seen_on s) (waited.seen_is ∙ ap (seen_after s.seen) first) (waited.count_is ∙ ap (count_after s.frame.count) first);
-      runs = λ g. passed_first s g bytes e q (waited.runs g);
-    }
+pub idle_most : (bytes : List ℕ) → idle_length bytes ≤ length bytes
+unfolding idle_length
+idle_most [] = omega arith
+idle_most (b ∷ bytes) = by_test (eqb b FD) (λ t. rw t (omega arith)) (λ t. rw t (omega (arith, idle_most bytes)))
 
--- ---- how far they go
+-- in an open part, as far as each is due
+module _ (s : State) (h : is_gap s.frame ≡ true) where
+  due_all : (v n : ℕ) (bytes : List ℕ) → AllFree s v n (take (due_length v n bytes) bytes)
+  unfolding due_length
+  due_all v n [] = free_none
+  due_all v n (b ∷ bytes) =
+      by_test (eqb b FD || not (eqb b (due_byte (seen_of v n)))) (λ t. rw t free_none)
+      (λ t.
+      let (other, due) = neither (eqb b FD) (not (eqb b (due_byte (seen_of v n)))) t in
+      rw t (free_more other (gap_free s v n b h (eqb-true _ _ (not-false _ due))) (due_all (push_seen v b) (push_count n) bytes)))
 
-module _ (bytes : List ℕ) (i : ℕ) where
+due_most : (v n : ℕ) (bytes : List ℕ) → due_length v n bytes ≤ length bytes
+unfolding due_length
+due_most v n [] = omega arith
+due_most v n (b ∷ bytes) =
+    by_test (eqb b FD || not (eqb b (due_byte (seen_of v n)))) (λ t. rw t (omega arith))
+    (λ t. rw t (omega (arith, due_most (push_seen v b) (push_count n) bytes)))
+
+-- either
+module _ (s : State) (bytes : List ℕ) where
+  wait_free : (wait_length s bytes ≤ length bytes) × AllFree s s.seen s.frame.count (take (wait_length s bytes) bytes)
+  unfolding wait_length
+  wait_free =
+      by_test (is_idle s.frame) (λ t. rw t (idle_most bytes, idle_all s t s.seen s.frame.count bytes))
+      (λ f. rw f
+      (by_test (is_gap s.frame) (λ t. rw t (due_most s.seen s.frame.count bytes, due_all s t s.seen s.frame.count bytes)) (λ t. rw t (omega arith, free_none))))
+
+  pub wait_most : wait_length s bytes ≤ length bytes
+  wait_most = wait_free.0
+
+  pub waited : {r : StretchResult} → r.at ≡ wait_length s bytes → r.state ≡ waited_for s (take r.at bytes) → Waited s (wait_length s bytes) bytes r
+  waited {r} e q =
+      let xs = take (wait_length s bytes) bytes in
+      let state : r.state ≡ waited_for s xs = q ∙ ap (λ i. waited_for s (take i bytes)) e in
+      let long : r.at ≡ 0 + length xs = omega (arith, e, length-take-le (wait_length s bytes) bytes wait_free.0) in
+      record {
+        long = e;
+        inside = wait_free.0;
+        state_is = state;
+        runs = λ g. ap₂ (λ (t : State) i. passed t g i) state long ∙ sym (free_passed g 0 wait_free.1) ∙ ap (λ (t : State). run t g xs 0) (advanced_first s);
+      }
+
+-- ---- how far the due bytes go
+
+module _ (bytes : List ℕ) (i v n seen count : ℕ) (before : due_length v n bytes ≡ i + due_length seen count (drop i bytes)) where
   here : i < length bytes → drop i bytes ≡ get_or bytes i 0 ∷ drop (i + 1) bytes
   here l = from_on bytes i (i + 1) refl (omega (arith, l))
 
-  module _ (before : idle_length bytes ≡ i + idle_length (drop i bytes)) where
-    pub idle_on : i < length bytes → eqb (get_or bytes i 0) FD ≡ false → idle_length bytes ≡ i + 1 + idle_length (drop (i + 1) bytes)
-    unfolding idle_length
-    idle_on l t = before ∙ ap (λ xs. i + idle_length xs) (here l) ∙ rw t (omega arith)
+  pub due_on : {more counted : ℕ} → i < length bytes → (eqb (get_or bytes i 0) FD || not (eqb (get_or bytes i 0) (due_byte (seen_of seen count)))) ≡ false
+      → more ≡ push_seen seen (get_or bytes i 0) → counted ≡ push_count count → due_length v n bytes ≡ i + 1 + due_length more counted (drop (i + 1) bytes)
+  unfolding due_length
+  due_on l t m c = before ∙ ap (λ xs. i + due_length seen count xs) (here l) ∙ rw (t, m, c) (omega arith)
 
-    pub idle_stop : i < length bytes → eqb (get_or bytes i 0) FD ≡ true → idle_length bytes ≡ i
-    unfolding idle_length
-    idle_stop l t = before ∙ ap (λ xs. i + idle_length xs) (here l) ∙ rw t (add-zero i)
+  pub due_stop : i < length bytes → (eqb (get_or bytes i 0) FD || not (eqb (get_or bytes i 0) (due_byte (seen_of seen count)))) ≡ true → due_length v n bytes ≡ i
+  unfolding due_length
+  due_stop l t = before ∙ ap (λ xs. i + due_length seen count xs) (here l) ∙ rw t (add-zero i)
 
-    pub idle_end : drop i bytes ≡ [] → idle_length bytes ≡ i
-    unfolding idle_length
-    idle_end e = before ∙ ap (λ xs. i + idle_length xs) e ∙ add-zero i
-
-  module _ (v n seen count : ℕ) (before : due_length v n bytes ≡ i + due_length seen count (drop i bytes)) where
-    pub due_on : {more counted : ℕ} → i < length bytes → (eqb (get_or bytes i 0) FD || not (eqb (get_or bytes i 0) (due_byte (seen_of seen count)))) ≡ false
-        → more ≡ push_seen seen (get_or bytes i 0) → counted ≡ push_count count → due_length v n bytes ≡ i + 1 + due_length more counted (drop (i + 1) bytes)
-    unfolding due_length
-    due_on l t m c = before ∙ ap (λ xs. i + due_length seen count xs) (here l) ∙ rw (t, m, c) (omega arith)
-
-    pub due_stop : i < length bytes → (eqb (get_or bytes i 0) FD || not (eqb (get_or bytes i 0) (due_byte (seen_of seen count)))) ≡ true → due_length v n bytes ≡ i
-    unfolding due_length
-    due_stop l t = before ∙ ap (λ xs. i + due_length seen count xs) (here l) ∙ rw t (add-zero i)
-
-    pub due_end : drop i bytes ≡ [] → due_length v n bytes ≡ i
-    unfolding due_length
-    due_end e = before ∙ ap (λ xs. i + due_length seen count xs) e ∙ add-zero i
+  pub due_end : drop i bytes ≡ [] → due_length v n bytes ≡ i
+  unfolding due_length
+  due_end e = before ∙ ap (λ xs. i + due_length seen count xs) e ∙ add-zero i

@@ -1,26 +1,25 @@
 -- A whole start or end text, from its `FD` to its check byte, is a stretch. Assumes nothing.
 use mathlib.Core.Path.{◌≡◌, refl, sym, ap, ap₂, ◌∙◌, subst, subst₂}
-use mathlib.Core.Bool.{Bool, true, false, not, ◌&&◌, ◌||◌}
+use mathlib.Core.Bool.{true, false, cond, ◌&&◌, and-false}
 use mathlib.Core.List.{List, [], ◌∷◌, ◌++◌, tail-eq_of_cons-eq}
-use Prim.Native.Nat.{ℕ, suc, ◌≤◌, ◌<◌}
+use Prim.Native.Nat.{ℕ, zero, suc, ◌≤◌, ◌<◌}
 use native.Mathlib.Nat.{zero-add}
 use native.Mathlib.Omega.{arith}
-use lib.Dec.{eqb, lit≤}
+use lib.Dec.{eqb, leb, lit≤}
 use lib.ListN.{length, get_or, take, drop, length-drop}
-use lib.Seq.{take-add, length-take-le, get_or-take}
-use borrow.Author.Tests.{eqb-true, not-true, not-false}
+use lib.Seq.{take_all, take-add, length-take-le, get_or-take}
+use borrow.Author.Tests.{eqb-true, le-leb, lt-leb}
+use Rattle.std.specs.Prelude.{Option, Some, None, MatchOption}
 use Rattle.general_laws.specs.Bytes.{◌!◌}
 use Rattle.text.specs.Text.{FD, EOR, check_byte}
 use Rattle.text.specs.Kinds.{kind_of, block_length}
 use Rattle.text.specs.StartBlock.{is_start_block, header_of}
 use Rattle.text.specs.EndBlock.{no_modes, is_end_block, modes_of}
-use Rattle.general_laws.proofs.Tests.{by_test, and_split}
+use Rattle.general_laws.proofs.Tests.{by_test, by_if, and_split}
 use Rattle.text_laws.proofs.KindTable.{end_is_kind, start_block_length, end_block_length, end_not_start}
 use Rattle.text_laws.proofs.Blocks.{start_rules, end_rules, split_3}
 use Rattle.text_start_block.specs.Read.{start_read}
-use Rattle.text_start_block.specs.declared.read.StartRead.{StartRead}
 use Rattle.text_end_block.specs.Read.{end_read}
-use Rattle.text_end_block.specs.declared.read.EndRead.{EndRead}
 use Rattle.receiver_spec.specs.Seen.{ends_opening}
 use Rattle.receiver_spec.specs.Marks.{is_marked}
 use Rattle.receiver_spec.proofs.Laws.{Rules, Machine, mk, AllQuiet, block, opening_seen, seen_control, seen_check, start_quiet, due_quiet, held, radar, radar_laws, machine, start_taken, end_taken}
@@ -34,7 +33,7 @@ use Rattle.receiver_state.specs.declared.state.State.{State}
 use Rattle.receiver_decisions.specs.Decisions.{frame, state}
 use Rattle.receiver_stretches.specs.Run.{passed, run}
 use Rattle.receiver_stretches.proofs.Laws.{state_of_machine, quiet_passed}
-use Rattle.receiver_stretch_start_end.specs.Ahead.{is_idle, is_gap, block_ahead, is_framed, start_ahead, end_ahead}
+use Rattle.receiver_stretch_start_end.specs.Ahead.{is_idle, is_gap, block_ahead, is_framed, start_ahead, end_ahead, text_ahead, start_entered, is_due_end, end_entered, behind_text, framed, WholeOrNone}
 use Rattle.receiver_stretch_start_end.proofs.BetweenTexts.{idle_has, gap_has}
 
 -- quiet bytes, five or more
@@ -126,113 +125,129 @@ module _ (s : State) (bytes : List ℕ) (opened : ends_opening (seen_of s.seen s
       (sym (stretch ∙ ap (λ b. b ++ (EOR ∷ check_byte b ∷ [])) framed)) quiet)
       small inside (omega arith)))
 
--- ---- the tests of the code, under the names of the definitions
-
--- three tests that all hold, or not all
-not_all : (a b c : Bool) → (not a || not b || not c) ≡ not (a && b && c)
-not_all true true c = refl
-not_all true false c = refl
-not_all false b c = refl
-
-kept_start : (b : List ℕ) → (start_read b).kept ≡ is_start_block b
-unfolding start_read
-kept_start b = by_test (is_start_block b) (λ t. rw t) (λ t. rw t)
-
-header_start : (b : List ℕ) → is_start_block b ≡ true → (start_read b).header ≡ header_of b
-unfolding start_read
-header_start b t = rw t
-
-kept_end : (radars b : List ℕ) → (end_read radars b).kept ≡ is_end_block radars b
-unfolding end_read
-kept_end radars b = by_test (is_end_block radars b) (λ t. rw t) (λ t. rw t)
-
-modes_end : (radars b : List ℕ) → is_end_block radars b ≡ true → (end_read radars b).modes ≡ modes_of b
-unfolding end_read
-modes_end radars b t = rw t
-
--- what the bytes behind a block and the reading of it say
-abbrev failed : List ℕ → ℕ → Bool → Bool
-failed bytes check kept = not (eqb (bytes ! 32) EOR) || not (eqb (bytes ! 33) check) || not kept
-
-failed_is : (bytes : List ℕ) {check : ℕ} {kept ok : Bool} → check ≡ check_byte (block_ahead bytes) → kept ≡ ok
-    → failed bytes check kept ≡ not (is_framed bytes && ok)
-failed_is bytes {check} {kept} {ok} c k =
-    ap₂ (failed bytes) c k ∙ not_all (eqb (bytes ! 32) EOR) (eqb (bytes ! 33) (check_byte (block_ahead bytes))) ok
-
-whole_has : (bytes : List ℕ) (ok : Bool) → (is_framed bytes && ok) ≡ true → (bytes ! 32 ≡ EOR) × (bytes ! 33 ≡ check_byte (block_ahead bytes)) × (ok ≡ true)
-whole_has bytes ok h =
-    let (framed, good) = and_split (is_framed bytes) ok h in
-    let (e, c) = and_split (eqb (bytes ! 32) EOR) (eqb (bytes ! 33) (check_byte (block_ahead bytes))) framed in
-    (eqb-true (bytes ! 32) EOR e, eqb-true (bytes ! 33) (check_byte (block_ahead bytes)) c, good)
-
 -- nothing is passed
 pub none_passed : {n : ℕ} (s : State) (bytes g : List ℕ) → n ≡ 0 → passed s g 0 ≡ run s g (take n bytes) 0
 unfolding run
 none_passed s bytes g e = sym (ap (λ k. run s g (take k bytes) 0) e)
 
-module _ (s : State) (bytes : List ℕ) {check : ℕ} {read : StartRead} (c : check ≡ check_byte (block_ahead bytes)) (r : read ≡ start_read (block_ahead bytes)) where
-  abbrev kept_is : read.kept ≡ is_start_block (block_ahead bytes)
-  kept_is = ap (λ (x : StartRead). x.kept) r ∙ kept_start (block_ahead bytes)
+-- ---- the same, step by step
 
-  pub no_start : failed bytes check read.kept ≡ true → start_ahead bytes ≡ 0
-  unfolding start_ahead
-  no_start t =
-      let none : (is_framed bytes && is_start_block (block_ahead bytes)) ≡ false = not-true _ (sym (failed_is bytes c kept_is) ∙ t) in
-      rw none
+-- what was found of a text of 34 bytes: none, or the state behind it
+abbrev pub Found : State → List ℕ → Option State → Type 0
+Found s text r = MatchOption r (text_ahead s text ≡ 0) (λ t. (text_ahead s text ≡ 34) × ((g : List ℕ) → run s g text 0 ≡ passed t g 34))
 
-  pub start_on : {seen : ℕ} → failed bytes check read.kept ≡ false → is_idle s.frame ≡ true → ends_opening (seen_of s.seen s.frame.count) FD ≡ true
-      → 34 ≤ length bytes → Bytes bytes → is_marked s.marks (bytes ! 1) ≡ true → seen ≡ seen_after s.seen (take 34 bytes) → (g : List ℕ)
-      → passed (state seen (frame 34 (block_ahead bytes ! 2) (block_ahead bytes ! 1) 0 0 check 5) read.header no_modes no_digits s.marks) g 34 ≡ run s g (take (start_ahead bytes) bytes) 0
-  unfolding start_ahead
-  start_on {seen} f idle opened inside small marked v g =
-      let all : (is_framed bytes && is_start_block (block_ahead bytes)) ≡ true = not-false _ (sym (failed_is bytes c kept_is) ∙ f) in
-      let (eor, checked, ok) = whole_has bytes (is_start_block (block_ahead bytes)) all in
-      rw (all, v, c, ap (λ (x : StartRead). x.header) r ∙ header_start (block_ahead bytes) ok)
-      (sym (start_whole s bytes opened inside small eor checked marked idle ok g))
+-- the first bytes of the first bytes
+take_less : (n m : ℕ) (xs : List ℕ) → n ≤ m → take n (take m xs) ≡ take n xs
+take_less zero m xs l = refl
+take_less (suc n) zero xs l = absurd (omega arith)
+take_less (suc n) (suc m) [] l = refl
+take_less (suc n) (suc m) (x ∷ xs) l = ap (λ ys. x ∷ ys) (take_less n m xs (omega arith))
 
--- the due end text's picture code and kind
-abbrev is_due_end : State → List ℕ → Bool
-is_due_end s bytes = is_gap s.frame && eqb (block_ahead bytes ! 1) s.header.picture && eqb (block_ahead bytes ! 2) (kind_of s.frame.part s.frame.due)
+-- of more bytes it is the same
+module _ (s : State) (bytes text : List ℕ) (e : text ≡ take 34 bytes) (inside : 34 ≤ length bytes) where
+  same_ahead : text_ahead s text ≡ text_ahead s bytes
+  unfolding text_ahead start_ahead end_ahead
+  same_ahead =
+      rw (
+        e,
+        le-leb 34 (length (take 34 bytes)) (omega (arith, length-take-le 34 bytes inside)),
+        le-leb 34 (length bytes) inside,
+        get_or-take 34 bytes 1 0 (lit≤ tt),
+        get_or-take 34 bytes 32 0 (lit≤ tt),
+        get_or-take 34 bytes 33 0 (lit≤ tt),
+        take_less 32 34 bytes (lit≤ tt),
+      )
 
-abbrev not_due : State → List ℕ → Bool → ℕ → Bool
-not_due s bytes gap kind = not gap || not (eqb (block_ahead bytes ! 1) s.header.picture) || not (eqb (block_ahead bytes ! 2) kind)
+  pub found : (r : Option State) → Found s text r → WholeOrNone s bytes r
+  found None h = sym same_ahead ∙ h
+  found (Some t) (n, p) = λ g. sym (p g) ∙ ap (λ xs. run s g xs 0) (e ∙ ap (λ i. take i bytes) (sym n ∙ same_ahead))
 
-module _ (s : State) (bytes : List ℕ) {gap : Bool} {kind : ℕ} (g : gap ≡ is_gap s.frame) (k : kind ≡ kind_of s.frame.part s.frame.due) where
-  due_is : not_due s bytes gap kind ≡ not (is_due_end s bytes)
-  due_is = ap₂ (not_due s bytes) g k ∙ not_all (is_gap s.frame) (eqb (block_ahead bytes ! 1) s.header.picture) _
+pub no_room : (s : State) (bytes : List ℕ) → length bytes < 34 → text_ahead s bytes ≡ 0
+unfolding text_ahead
+no_room s bytes l = rw (lt-leb 34 (length bytes) l)
 
-  pub not_due_lem : not_due s bytes gap kind ≡ true → end_ahead s bytes ≡ 0
-  unfolding end_ahead
-  not_due_lem t =
-      let none : is_due_end s bytes ≡ false = not-true _ (sym due_is ∙ t) in
-      rw none
+module _ (s : State) (text : List ℕ) where
+  pub no_opening : ends_opening (seen_of s.seen s.frame.count) FD ≡ false → text_ahead s text ≡ 0
+  unfolding text_ahead
+  no_opening f = simp (f, and-false)
 
-  module _ {check : ℕ} {read : EndRead} (due : not_due s bytes gap kind ≡ false) (c : check ≡ check_byte (block_ahead bytes)) (r : read ≡ end_read s.header.radars (block_ahead bytes)) where
-    abbrev end_kept : read.kept ≡ is_end_block s.header.radars (block_ahead bytes)
-    end_kept = ap (λ (x : EndRead). x.kept) r ∙ kept_end s.header.radars (block_ahead bytes)
+  pub no_mark : is_marked s.marks (text ! 1) ≡ false → text_ahead s text ≡ 0
+  unfolding text_ahead
+  no_mark f = by_if (λ n. n ≡ 0) (leb 34 (length text) && ends_opening (seen_of s.seen s.frame.count) FD) (λ _. rw f) (λ _. refl)
 
-    abbrev is_due : is_due_end s bytes ≡ true
-    is_due = not-false _ (sym due_is ∙ due)
+-- behind an opening, of a marked picture
+module _ (s : State) (text : List ℕ) (size : length text ≡ 34) (small : Bytes text) (opened : ends_opening (seen_of s.seen s.frame.count) FD ≡ true)
+    (marked : is_marked s.marks (text ! 1) ≡ true) where
+  place : (i : ℕ) → i < 32 → block_ahead text ! i ≡ text ! i
+  place i l = get_or-take 32 text i 0 l
 
-    pub no_end : failed bytes check read.kept ≡ true → end_ahead s bytes ≡ 0
-    unfolding end_ahead
-    no_end t =
-        let none : (is_framed bytes && is_end_block s.header.radars (block_ahead bytes)) ≡ false = not-true _ (sym (failed_is bytes c end_kept) ∙ t) in
-        rw (is_due, none)
+  all : take 34 text ≡ text
+  all = take_all 34 text (omega (arith, size))
 
-    pub end_on : {seen : ℕ} → failed bytes check read.kept ≡ false → length s.modes ≡ 8 → ends_opening (seen_of s.seen s.frame.count) FD ≡ true
-        → 34 ≤ length bytes → Bytes bytes → is_marked s.marks (bytes ! 1) ≡ true → seen ≡ seen_after s.seen (take 34 bytes) → (h : List ℕ)
-        → passed (state seen (frame 34 (block_ahead bytes ! 2) (block_ahead bytes ! 1) s.frame.part s.frame.due check 5) s.header read.modes s.digits s.marks) h 34
-        ≡ run s h (take (end_ahead s bytes) bytes) 0
-    unfolding end_ahead
-    end_on {seen} f eight opened inside small marked v h =
-        let all : (is_framed bytes && is_end_block s.header.radars (block_ahead bytes)) ≡ true = not-false _ (sym (failed_is bytes c end_kept) ∙ f) in
-        let (eor, checked, ok) = whole_has bytes (is_end_block s.header.radars (block_ahead bytes)) all in
-        let (front, last) = and_split (is_gap s.frame && eqb (block_ahead bytes ! 1) s.header.picture) (eqb (block_ahead bytes ! 2) (kind_of s.frame.part s.frame.due)) is_due in
-        let (waits, picture) = and_split (is_gap s.frame) (eqb (block_ahead bytes ! 1) s.header.picture) front in
-        rw (is_due, all, v, c, ap (λ (x : EndRead). x.modes) r ∙ modes_end s.header.radars (block_ahead bytes) ok)
-        (sym (end_whole s bytes opened inside small eor checked marked eight waits (eqb-true _ _ picture) (eqb-true _ _ last) ok h))
+  ahead_start : is_idle s.frame ≡ true → text_ahead s text ≡ cond (is_framed text && is_start_block (block_ahead text)) 34 0
+  unfolding text_ahead start_ahead
+  ahead_start i = rw (le-leb 34 (length text) (omega (arith, size)), opened, marked, i)
 
--- a byte of the block
-pub in_block : (bytes : List ℕ) (i : ℕ) → 34 ≤ length bytes → i < 32 → i < length (block_ahead bytes)
-in_block bytes i l h = omega (arith, h, length-take-le 32 bytes (omega (arith, l)))
+  ahead_end : is_idle s.frame ≡ false
+      → text_ahead s text ≡ cond (is_due_end s text && is_framed text && is_end_block s.header.radars (block_ahead text)) 34 0
+  unfolding text_ahead end_ahead
+  ahead_end i =
+      rw (le-leb 34 (length text) (omega (arith, size)), opened, marked, i, place 1 (lit≤ tt), place 2 (lit≤ tt))
+
+  -- the state behind the text, by its parts
+  behind_is : {t : State} → t.seen ≡ s.seen → t.frame ≡ s.frame
+      → state (seen_after s.seen (take 34 text)) (frame 34 (block_ahead text ! 2) (block_ahead text ! 1) s.frame.part s.frame.due (check_byte (block_ahead text)) 5) t.header t.modes t.digits t.marks
+      ≡ behind_text t text
+  behind_is v f = rw (v, f, all, place 2 (lit≤ tt), place 1 (lit≤ tt), count_five s.frame.count text (omega (arith, size)))
+
+  framed_has : is_framed text ≡ true → (text ! 32 ≡ EOR) × (text ! 33 ≡ check_byte (block_ahead text))
+  framed_has h =
+      let (e, c) = and_split (eqb (text ! 32) EOR) (eqb (text ! 33) (check_byte (block_ahead text))) h in
+      (eqb-true (text ! 32) EOR e, eqb-true (text ! 33) (check_byte (block_ahead text)) c)
+
+  start_on : is_idle s.frame ≡ true → is_start_block (block_ahead text) ≡ true
+      → Found s text (framed (state s.seen s.frame (header_of (block_ahead text)) no_modes no_digits s.marks) text)
+  unfolding framed
+  start_on idle ok =
+      by_test (is_framed text)
+      (λ f.
+      let (eor, checked) = framed_has f in
+      let (at, part, kind, picture, due, check) = idle_has s idle in
+      rw f (
+        ahead_start idle ∙ rw (f, ok),
+        λ g. ap (λ xs. run s g xs 0) (sym all)
+            ∙ start_whole s text opened (omega (arith, size)) small eor checked marked idle ok g
+            ∙ ap₂ (λ p d. passed (state (seen_after s.seen (take 34 text)) (frame 34 (block_ahead text ! 2) (block_ahead text ! 1) p d (check_byte (block_ahead text)) 5) (header_of (block_ahead text)) no_modes no_digits s.marks) g 34) (sym part) (sym due)
+            ∙ ap (λ (t : State). passed t g 34) (behind_is {t = state s.seen s.frame (header_of (block_ahead text)) no_modes no_digits s.marks} refl refl),
+      ))
+      (λ f. rw f (ahead_start idle ∙ rw f))
+
+  pub start_found : is_idle s.frame ≡ true → MatchOption (start_entered s text) (text_ahead s text ≡ 0) (λ t. Found s text (framed t text))
+  unfolding start_entered start_read
+  start_found idle =
+      by_test (is_start_block (block_ahead text)) (λ ok. rw ok (start_on idle ok)) (λ no. rw no (ahead_start idle ∙ simp (no, and-false)))
+
+  end_on : length s.modes ≡ 8 → is_idle s.frame ≡ false → is_due_end s text ≡ true → is_end_block s.header.radars (block_ahead text) ≡ true
+      → Found s text (framed (state s.seen s.frame s.header (modes_of (block_ahead text)) s.digits s.marks) text)
+  unfolding framed
+  end_on eight idle due ok =
+      by_test (is_framed text)
+      (λ f.
+      let (eor, checked) = framed_has f in
+      let (front, last) = and_split (is_gap s.frame && eqb (text ! 1) s.header.picture) (eqb (text ! 2) (kind_of s.frame.part s.frame.due)) due in
+      let (waits, picture) = and_split (is_gap s.frame) (eqb (text ! 1) s.header.picture) front in
+      rw f (
+        ahead_end idle ∙ rw (due, f, ok),
+        λ g. ap (λ xs. run s g xs 0) (sym all)
+            ∙ end_whole s text opened (omega (arith, size)) small eor checked marked eight waits (place 1 (lit≤ tt) ∙ eqb-true _ _ picture) (place 2 (lit≤ tt) ∙ eqb-true _ _ last) ok g
+            ∙ ap (λ (t : State). passed t g 34) (behind_is {t = state s.seen s.frame s.header (modes_of (block_ahead text)) s.digits s.marks} refl refl),
+      ))
+      (λ f. rw f (ahead_end idle ∙ simp (f, and-false)))
+
+  pub end_found : length s.modes ≡ 8 → is_idle s.frame ≡ false → MatchOption (end_entered s text) (text_ahead s text ≡ 0) (λ t. Found s text (framed t text))
+  unfolding end_entered end_read
+  end_found eight idle =
+      by_test (is_due_end s text)
+      (λ due. rw due
+      (by_test (is_end_block s.header.radars (block_ahead text)) (λ ok. rw ok (end_on eight idle due ok)) (λ no. rw no (ahead_end idle ∙ simp (no, and-false)))))
+      (λ no. rw no (ahead_end idle ∙ rw no))

@@ -1,17 +1,21 @@
 -- How many bytes between texts a slice begins with, and whether a whole start or end text stands behind them, in the
 -- code's terms. Assumes nothing.
-use Rattle.std.specs.Prelude.{◌≡◌, Bool, cond, not, ◌&&◌, ◌||◌, List, [], ◌∷◌, ℕ, suc, ◌+◌, ◌≤◌, eqb, leb, length, take, drop}
+use Rattle.std.specs.Prelude.{◌≡◌, Bool, cond, not, ◌&&◌, ◌||◌, List, [], ◌∷◌, ℕ, suc, ◌+◌, ◌≤◌, eqb, leb, length, take, drop, Option, Some, None, option_map, MatchOption}
 use Rattle.general_laws.specs.Bytes.{◌!◌}
 use Rattle.text.specs.Text.{FD, EOR, check_byte}
 use Rattle.text.specs.Kinds.{kind_of}
 use Rattle.text.specs.StartBlock.{is_start_block}
-use Rattle.text.specs.EndBlock.{is_end_block}
+use Rattle.text.specs.EndBlock.{no_modes, is_end_block}
+use Rattle.text_start_block.specs.Read.{start_read}
+use Rattle.text_end_block.specs.Read.{end_read}
+use Rattle.receiver_spec.specs.State.{no_digits}
 use Rattle.receiver_spec.specs.Seen.{ends_opening, due_byte}
 use Rattle.receiver_spec.specs.Marks.{is_marked}
 use Rattle.receiver_bytes_seen.specs.AsNumber.{seen_of, push_seen, push_count}
 use Rattle.receiver_bytes_seen.specs.Behind.{seen_after, count_after}
 use Rattle.receiver_state.specs.declared.state.Frame.{Frame}
 use Rattle.receiver_state.specs.declared.state.State.{State}
+use Rattle.receiver_decisions.specs.Decisions.{frame, state}
 use Rattle.receiver_byte_call.specs.InPayload.{advanced_state}
 use Rattle.receiver_stretches.specs.declared.stretch.StretchResult.{StretchResult}
 use Rattle.receiver_stretches.specs.Run.{Passes}
@@ -87,6 +91,41 @@ unfoldable pub text_ahead : State → List ℕ → ℕ
 text_ahead s bytes =
     cond (leb 34 (length bytes) && ends_opening (seen_of s.seen s.frame.count) FD)
     (cond (is_marked s.marks (bytes ! 1)) (cond (is_idle s.frame) (start_ahead bytes) (end_ahead s bytes)) 0) 0
+
+-- ---- the same, step by step
+
+-- a start text's block gives the header; modes and waiting digits are 0. Notice 49, 4(1)(1-1)(c)(イ) and (d)(イ)
+unfoldable pub start_entered : State → List ℕ → Option State
+start_entered s text =
+    option_map (λ h. state s.seen s.frame h no_modes no_digits s.marks) (start_read (block_ahead text))
+
+-- an end text's picture code and kind are the due ones
+abbrev pub is_due_end : State → List ℕ → Bool
+is_due_end s text =
+    is_gap s.frame && eqb (text ! 1) s.header.picture && eqb (text ! 2) (kind_of s.frame.part s.frame.due)
+
+-- its block gives the modes. Notice 49, 4(1)(1-1)(c)(ウ) and (d)(イ)
+unfoldable pub end_entered : State → List ℕ → Option State
+end_entered s text =
+    cond (is_due_end s text)
+    (option_map (λ m. state s.seen s.frame s.header m s.digits s.marks) (end_read s.header.radars (block_ahead text)))
+    None
+
+-- the state behind the check byte of a text of 34 bytes
+abbrev pub behind_text : State → List ℕ → State
+behind_text s text =
+    state (seen_after s.seen text)
+    (frame 34 (text ! 2) (text ! 1) s.frame.part s.frame.due (check_byte (block_ahead text)) (count_after s.frame.count text))
+    s.header s.modes s.digits s.marks
+
+-- if `FE` and that byte are there. Notice 49, 4(1)(1-1)(c)(ア)
+unfoldable pub framed : State → List ℕ → Option State
+framed s text = cond (is_framed text) (Some (behind_text s text)) None
+
+-- the state behind such a text, or none where none stands there whole
+abbrev pub WholeOrNone : State → List ℕ → Option State → Type 0
+WholeOrNone s bytes r =
+    MatchOption r (text_ahead s bytes ≡ 0) (λ t. Passes s (take (text_ahead s bytes) bytes) (record { state = t; at = 34 }))
 
 -- ---- both, one behind the other
 

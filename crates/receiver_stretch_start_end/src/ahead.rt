@@ -15,12 +15,9 @@ pub fn edge_ahead(s: State, bytes: &[u8]) -> StretchResult
     ensures { Passes s (take (edge_ahead s bytes.now) bytes.now) result }
 {
     let waited = wait_run(s, bytes);
-    let here = waited.state;
-    let n = waited.at;
-    let text = text_ahead(here, &bytes[n..]);
-    let state = text.state;
+    let text = text_ahead(waited.state, &bytes[waited.at..]);
     StretchResult {
-        state,
-        at: n + text.at,
+        at: waited.at + text.at,
+        ..text
     }
 }

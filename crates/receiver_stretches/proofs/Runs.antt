@@ -1,13 +1,11 @@
 -- The bytes of a slice, one by one, in the code's terms; and that this is `receiver_spec`'s feed. Assumes nothing.
-use mathlib.Core.Path.{◌≡◌, refl, sym, ap, ◌∙◌, subst}
+use mathlib.Core.Path.{◌≡◌, refl, sym, ap, ap₂, ◌∙◌, subst}
 use mathlib.Core.Bool.{true, false}
 use mathlib.Core.List.{List, [], ◌∷◌, ◌++◌}
-use Prim.Native.Nat.{ℕ, zero, suc, ◌+◌, ◌≤◌, ◌<◌}
-use native.Mathlib.Numerals.{add-one}
+use Prim.Native.Nat.{ℕ, zero, suc, ◌+◌, ◌-◌, ◌≤◌, ◌<◌}
 use native.Mathlib.Nat.{add-zero, zero-add}
 use native.Mathlib.Omega.{arith}
-use lib.ListN.{length, get_or, drop, take, drop_of_length-le, length-set, take-append-drop, length-drop}
-use lib.Seq.{drop-cons, drop-drop}
+use lib.ListN.{length, drop, take, length-set, take-append-drop, length-drop}
 use Rattle.receiver_spec.specs.Calls.{CallOutcome, feed, slice_call, answered}
 use Rattle.receiver_spec.specs.State.{is_possible}
 use borrow.Author.Tests.{eq-eqb}
@@ -17,7 +15,6 @@ use Rattle.receiver_state.specs.Meaning.{state_of, applied, number_of, applied_t
 use Rattle.receiver_step.specs.Decide.{decide}
 use Rattle.receiver_state.specs.declared.state.State.{State}
 use Rattle.receiver_decisions.specs.declared.decision.Decision.{Decision}
-use Rattle.receiver_state.specs.declared.answer.Answer.TheVariants.{Quiet}
 use Rattle.text_laws.proofs.Parts.{zeros_long}
 use Rattle.receiver_state.specs.declared.grid.Effect.{Effect}
 use Rattle.receiver_state.specs.declared.grid.Effect.TheVariants.{Keep, Clear, Enter}
@@ -28,27 +25,20 @@ use Rattle.receiver_stretches.specs.Run.{RunOutcome, passed, run}
 use Rattle.receiver_byte_call.proofs.Laws.{decide_facts, same_step, applied_here}
 use Rattle.general_laws.proofs.Lists.{Bytes, taken_most}
 
--- one byte of it, and its end
-module _ (s : State) (g : List ℕ) (bytes : List ℕ) (i : ℕ) (h : i < length bytes) where
-  pub run_quiet : is_quiet (decide s (get_or bytes i 0)).answer ≡ true
-      → run s g (drop i bytes) i
-      ≡ run (decide s (get_or bytes i 0)).next (applied g (decide s (get_or bytes i 0)).effect (get_or bytes i 0)) (drop (i + 1) bytes) (i + 1)
+-- one byte of it
+module _ (s : State) (g bytes : List ℕ) (b i : ℕ) where
+  run_quiet : is_quiet (decide s b).answer ≡ true → run s g (b ∷ bytes) i ≡ run (decide s b).next (applied g (decide s b).effect b) bytes (i + 1)
   unfolding run
-  run_quiet q = rw (drop-cons bytes i 0, add-one) (simp q)
+  run_quiet q = rw q
 
-  pub run_stop : is_quiet (decide s (get_or bytes i 0)).answer ≡ false
-      → run s g (drop i bytes) i
+  run_stop : is_quiet (decide s b).answer ≡ false
+      → run s g (b ∷ bytes) i
       ≡ record {
-        result = record { state = (decide s (get_or bytes i 0)).next; answer = (decide s (get_or bytes i 0)).answer; count = i + 1 };
-        grid = applied g (decide s (get_or bytes i 0)).effect (get_or bytes i 0);
+        result = record { state = (decide s b).next; answer = (decide s b).answer; count = i + 1 };
+        grid = applied g (decide s b).effect b;
       }
   unfolding run
-  run_stop q = rw (drop-cons bytes i 0) (simp q)
-
-pub run_end : (s : State) (g bytes : List ℕ) (i : ℕ) → length bytes ≤ i
-    → run s g (drop i bytes) i ≡ record { result = record { state = s; answer = Quiet; count = i }; grid = g }
-unfolding run
-run_end s g bytes i h = simp (drop_of_length-le bytes h)
+  run_stop q = rw q
 
 -- a result after i bytes more
 abbrev pub plus : ℕ → CallOutcome → CallOutcome
@@ -141,19 +131,6 @@ run_after s g (b ∷ xs) i j =
 pub passed_after : (s : State) (g xs : List ℕ) (i : ℕ) {t : State} {h : List ℕ} {n : ℕ} → run s g xs 0 ≡ passed t h n → run s g xs i ≡ passed t h (i + n)
 passed_after s g xs i e = ap (run s g xs) (sym (add-zero i)) ∙ run_after s g xs i 0 ∙ ap (after i) e
 
--- one byte more
-pub passed_byte :
-    (s : State) (g xs : List ℕ) (i b : ℕ) {t : State} {h : List ℕ} {n : ℕ} → run s g xs i ≡ passed t h n → is_quiet (decide t b).answer ≡ true
-    → run s g (xs ++ (b ∷ [])) i ≡ passed (decide t b).next (applied h (decide t b).effect b) (n + 1)
-unfolding run
-passed_byte s g xs i b {t} {h} {n} e q = passed_on s g xs (b ∷ []) i e ∙ rw q
-
--- a stretch of n bytes, under the names that the code has for its length and the state behind it
-pub passed_first :
-    (s : State) (g bytes : List ℕ) {n i : ℕ} {t u : State} {h : List ℕ} → n ≡ i → t ≡ u → run s g (take i bytes) 0 ≡ passed u h i
-    → passed t h i ≡ run s g (take n bytes) 0
-passed_first s g bytes {i} {h} n q e = ap (λ x. passed x h i) q ∙ sym e ∙ ap (λ k. run s g (take k bytes) 0) (sym n)
-
 -- a grid of 20,000 bytes stays one
 length_applied : (g : List ℕ) (e : Effect) (b : ℕ) → length g ≡ grid_length → length (applied g e b) ≡ grid_length
 unfolding applied
@@ -176,74 +153,82 @@ drop_taken zero xs = refl
 drop_taken (suc n) [] = refl
 drop_taken (suc n) (x ∷ xs) = drop_taken n xs
 
--- from byte i of a slice on, up to byte j, each is answered 0, and they led to this state and grid
-pub record RunsTo (s : State) (g : List ℕ) (i : ℕ) (t : State) (h : List ℕ) (j : ℕ) (bytes : List ℕ) : Type 0 where
-  pub runs : run s g (drop i bytes) i ≡ run t h (drop j bytes) j
-  pub inside : j ≤ length bytes
+-- the bytes of a slice before its rest are each answered 0, and they led to this state and grid
+pub record RunsTo (s : State) (g bytes : List ℕ) (t : State) (h rest : List ℕ) : Type 0 where
+  pub runs : run s g bytes 0 ≡ run t h rest (length bytes - length rest)
+  pub inside : length rest ≤ length bytes
   pub long : length h ≡ grid_length
 
-pub runs_to_none : {s : State} {g bytes : List ℕ} {i : ℕ} → i ≤ length bytes → length g ≡ grid_length → RunsTo s g i s g i bytes
-runs_to_none l h = record { runs = refl; inside = l; long = h }
-
-pub runs_to_trans :
-    {s t u : State} {g h k bytes : List ℕ} {i j n : ℕ} → RunsTo s g i t h j bytes → RunsTo t h j u k n bytes → RunsTo s g i u k n bytes
-runs_to_trans p q = record { runs = p.runs ∙ q.runs; inside = q.inside; long = q.long }
+pub runs_to_none : (s : State) (g bytes : List ℕ) → length g ≡ grid_length → RunsTo s g bytes s g bytes
+runs_to_none s g bytes h =
+    let none : 0 ≡ length bytes - length bytes = omega arith in
+    record { runs = ap (run s g bytes) none; inside = omega arith; long = h }
 
 -- a stretch more, and a byte more, under the names that the code has for its decision and the grid
+pub stretch_inside : (t u : State) (h rest : List ℕ) {k : List ℕ} {at : ℕ} (n : ℕ) → passed u k at ≡ run t h (take n rest) 0 → at ≤ length rest
+stretch_inside t u h rest n e = omega (arith, passed_count t h (take n rest) 0 (sym e), taken_most n rest)
+
 pub runs_to_stretch :
-    {s t u : State} {g h k bytes : List ℕ} {i j at : ℕ} (n : ℕ) → RunsTo s g i t h j bytes → passed u k at ≡ run t h (take n (drop j bytes)) 0
-    → RunsTo s g i u k (j + at) bytes
-runs_to_stretch {s} {t} {u} {g} {h} {k} {bytes} {i} {j} {at} n before e =
-    let xs = take n (drop j bytes) in
-    let count : at ≡ 0 + length xs = passed_count t h xs 0 (sym e) in
-    let rest : drop n (drop j bytes) ≡ drop (j + at) bytes =
-    sym (drop_taken n (drop j bytes)) ∙ drop-drop (length xs) j bytes ∙ ap (λ m. drop (j + m) bytes) (sym (count ∙ zero-add (length xs))) in
+    {s t u : State} {g bytes h rest k : List ℕ} {at : ℕ} (n : ℕ) (xs : List ℕ) → RunsTo s g bytes t h rest → passed u k at ≡ run t h (take n rest) 0
+    → xs ≡ drop at rest → RunsTo s g bytes u k xs
+runs_to_stretch {t = t} {u = u} {bytes = bytes} {h = h} {rest = rest} {k = k} {at = at} n xs before e q =
+    let ys = take n rest in
+    let j = length bytes - length rest in
+    let count : at ≡ 0 + length ys = passed_count t h ys 0 (sym e) in
+    let left : drop n rest ≡ xs = sym (drop_taken n rest) ∙ ap (λ m. drop m rest) (sym (count ∙ zero-add (length ys))) ∙ sym q in
+    let size : length xs ≡ length rest - at = ap length q ∙ length-drop at rest in
+    let most : at ≤ length rest = stretch_inside t u h rest n e in
+    let place : j + at ≡ length bytes - length xs = omega (arith, before.inside, size, most) in
     record {
       runs =
           before.runs
-          ∙ ap (λ ys. run t h ys j) (sym (take-append-drop n (drop j bytes)))
-          ∙ passed_on t h xs (drop n (drop j bytes)) j (passed_after t h xs j (sym e))
-          ∙ ap (λ ys. run u k ys (j + at)) rest;
-      inside = omega (arith, before.inside, count, taken_most n (drop j bytes), length-drop j bytes);
-      long = ap (λ (r : RunOutcome). length r.grid) e ∙ run_long t h xs 0 before.long;
+          ∙ ap (λ zs. run t h zs j) (sym (take-append-drop n rest))
+          ∙ passed_on t h ys (drop n rest) j (passed_after t h ys j (sym e))
+          ∙ ap₂ (run u k) left place;
+      inside = omega (arith, before.inside, size);
+      long = ap (λ (r : RunOutcome). length r.grid) e ∙ run_long t h ys 0 before.long;
     }
 
--- a stretch that a slice begins with, and one of the slice from byte j on
-pub runs_to_first : {s u : State} {g k bytes : List ℕ} {at : ℕ} (n : ℕ) → length g ≡ grid_length → passed u k at ≡ run s g (take n bytes) 0 → RunsTo s g 0 u k at bytes
-runs_to_first {s} {u} {g} {k} {bytes} {at} n h e =
-    subst (λ m. RunsTo s g 0 u k m bytes) (zero-add at) (runs_to_stretch n (runs_to_none (omega arith) h) e)
+module _ {s t : State} {g bytes h rest k behind : List ℕ} {b : ℕ} {d : Decision} (before : RunsTo s g bytes t h rest) (r : rest ≡ b ∷ behind)
+    (e : d ≡ decide t b) (f : k ≡ applied_to h d.effect b) where
+  here : k ≡ applied h d.effect b
+  here = f ∙ applied_here h d.effect b before.long
 
-pub runs_to_part :
-    {s t u : State} {g h k bytes : List ℕ} {i j at : ℕ} (xs : List ℕ) (n : ℕ) → xs ≡ drop j bytes → RunsTo s g i t h j bytes → passed u k at ≡ run t h (take n xs) 0
-    → RunsTo s g i u k (j + at) bytes
-runs_to_part {t} {u} {h} {k} {at} xs n e before p = runs_to_stretch n before (subst (λ ys. passed u k at ≡ run t h (take n ys) 0) e p)
+  size : length rest ≡ suc (length behind)
+  size = ap length r
 
-pub runs_to_byte :
-    {s t : State} {g h k bytes : List ℕ} {i j : ℕ} {d : Decision} → RunsTo s g i t h j bytes → j < length bytes
-    → d ≡ decide t (get_or bytes j 0) → k ≡ applied_to h d.effect (get_or bytes j 0) → is_quiet d.answer ≡ true
-    → RunsTo s g i d.next k (j + 1) bytes
-runs_to_byte {t} {h} {k} {bytes} {j} {d} before l e f q =
-    let b = get_or bytes j 0 in
-    let here = f ∙ applied_here h d.effect b before.long in
-    record {
-      runs = before.runs ∙ run_quiet t h bytes j l (ap (λ (x : Decision). is_quiet x.answer) (sym e) ∙ q) ∙ rw (here, e);
-      inside = omega (arith, l);
-      long = ap length here ∙ length_applied h d.effect b before.long;
-    }
+  place : length bytes - length rest + 1 ≡ length bytes - length behind
+  place = omega (arith, before.inside, size)
 
--- where it ends: a byte that is answered other than 0, or none left
-pub runs_to_stop :
-    {s t : State} {g h k bytes : List ℕ} {j : ℕ} {d : Decision} → RunsTo s g 0 t h j bytes → j < length bytes
-    → d ≡ decide t (get_or bytes j 0) → k ≡ applied_to h d.effect (get_or bytes j 0) → is_quiet d.answer ≡ false
-    → record { result = record { state = d.next; answer = d.answer; count = j + 1 }; grid = k } ≡ run s g bytes 0
-runs_to_stop {t} {h} {bytes} {j} {d} before l e f q =
-    sym
-    (before.runs
-    ∙ run_stop t h bytes j l (ap (λ (x : Decision). is_quiet x.answer) (sym e) ∙ q)
-    ∙ rw (f ∙ applied_here h d.effect (get_or bytes j 0) before.long, e))
+  pub runs_to_byte : is_quiet d.answer ≡ true → RunsTo s g bytes d.next k behind
+  runs_to_byte q =
+      record {
+        runs =
+            before.runs
+            ∙ ap (λ zs. run t h zs (length bytes - length rest)) r
+            ∙ run_quiet t h behind b (length bytes - length rest) (ap (λ (x : Decision). is_quiet x.answer) (sym e) ∙ q)
+            ∙ rw (place, here, e);
+        inside = omega (arith, before.inside, size);
+        long = ap length here ∙ length_applied h d.effect b before.long;
+      }
 
-pub runs_to_all : {s t : State} {g h bytes : List ℕ} {j : ℕ} → RunsTo s g 0 t h j bytes → length bytes ≤ j → passed t h j ≡ run s g bytes 0
-runs_to_all {t} {h} {bytes} {j} before l = sym (before.runs ∙ run_end t h bytes j l)
+  -- where it ends: a byte that is answered other than 0
+  pub runs_to_stop : is_quiet d.answer ≡ false
+      → record { result = record { state = d.next; answer = d.answer; count = length bytes - length behind }; grid = k } ≡ run s g bytes 0
+  runs_to_stop q =
+      sym
+      (before.runs
+      ∙ ap (λ zs. run t h zs (length bytes - length rest)) r
+      ∙ run_stop t h behind b (length bytes - length rest) (ap (λ (x : Decision). is_quiet x.answer) (sym e) ∙ q)
+      ∙ rw (place, here, e))
+
+-- or none left
+pub runs_to_all : {s t : State} {g h bytes : List ℕ} → (rest : List ℕ) → RunsTo s g bytes t h rest → length rest ≡ 0 → passed t h (length bytes) ≡ run s g bytes 0
+unfolding run
+runs_to_all {t = t} {h} {bytes} [] before l =
+    let none : length bytes - 0 ≡ length bytes = omega arith in
+    sym (before.runs ∙ ap (passed t h) none)
+runs_to_all (x ∷ rest) before l = absurd (omega arith)
 
 -- the run of all bytes is the slice call
 module _ (s : State) (g bytes : List ℕ) (small : Bytes bytes) (long : length g ≡ grid_length) (possible : is_possible (state_of s) ≡ true) where

@@ -1,9 +1,9 @@
 -- Bytes left in the text under way, exactly (Request 106). Assumes nothing.
-use Rattle.std.specs.Prelude.{ℕ, ◌+◌, ◌-◌, cond, not, eqb}
+use Rattle.std.specs.Prelude.{ℕ, ◌+◌, ◌-◌, cond, not, eqb, Result, Ok, Err}
+use Rattle.refusals.specs.declared.refusal.Refusal.{Refusal}
+use Rattle.refusals.specs.Rows.{row_of}
 use Rattle.text.specs.Kinds.{block_length, text_length}
 use Rattle.receiver_spec.specs.State.{State, is_possible}
-use Rattle.service_bytes_left.specs.declared.left.BytesLeftResult.{BytesLeftResult}
-use Rattle.service_bytes_left.specs.declared.left.BytesLeftResult.TheVariants.{Bytes, Refused}
 
 -- What the service answers: how many bytes are left, or a refusal (2), which carries no value
 pub data LeftAnswer : Type 0 where
@@ -11,9 +11,9 @@ pub data LeftAnswer : Type 0 where
   refused : ℕ → LeftAnswer
 
 -- 01's number and value of each case of the code
-unfoldable pub answer_of : BytesLeftResult → LeftAnswer
-answer_of (Bytes n) = left n
-answer_of (Refused n) = refused n
+unfoldable pub answer_of : Result ℕ Refusal → LeftAnswer
+answer_of (Ok n) = left n
+answer_of (Err refusal) = refused (row_of refusal)
 
 -- Of a text of the kind under way, the five control bytes have come and as many bytes more as the place; the others, its
 -- `FF` included, are still to come. (In a possible state with its kind read these are 1 or more.)

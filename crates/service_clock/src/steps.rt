@@ -7,5 +7,5 @@ ghost use Rattle.service_clock.specs.Clock.{clock_steps};
 pub fn clock_steps(from: u16, to: u16) -> u16
     ensures { result ≡ clock_steps from to }
 {
-    std::num::wrapping_sub_u16(to, from) % 16384
+    to.wrapping_sub(from) % 16384
 }

@@ -3,16 +3,17 @@ use mathlib.Core.Path.{◌≡◌, refl, sym, ap, ◌∙◌}
 use mathlib.Core.Bool.{Bool, true, false, not, ◌&&◌, ◌||◌}
 use mathlib.Core.List.{List, [], ◌∷◌}
 use Prim.Native.Nat.{ℕ, zero, suc, ◌+◌, ◌*◌, ◌-◌, ◌/◌, ◌%◌, ◌≤◌, ◌<◌, max}
-use native.Mathlib.Nat.{add-zero}
+use native.Mathlib.Nat.{add-zero, zero-mul, suc-mul, mul_comm, mul-le-mul_right}
+use native.Mathlib.Numerals.{add-one}
 use native.Mathlib.Omega.{arith}
 use lib.Dec.{eqb, leb, ltb}
-use lib.ListN.{length, take, drop, length-drop}
-use lib.Seq.{get_or-take, get_or-drop, length-take-le}
+use lib.ListN.{length, get_or, take, drop, length-drop}
+use lib.Seq.{get_or-take, get_or-drop, length-take-le, drop-drop}
+use Rattle.std.specs.Simd.{first_chunks}
 use mir.Val.{bool_byte}
 use borrow.Author.Tests.{leb-true, leb-false, eq-eqb, ne_eqb, eqb-true, le-leb, lt-leb, not-false}
 use Rattle.general_laws.specs.Bytes.{◌!◌, every}
 use Rattle.text.specs.DataBlock.{odd_level, even_level, is_intensity_byte}
-use Rattle.general_laws.proofs.Lists.{width}
 use Rattle.general_laws.proofs.Tests.{by_test, and_split, every_at, out_of, bool_byte_lem, bool_byte_less}
 use Rattle.service_levels.specs.Meshes.{level_of, count_to}
 
@@ -72,16 +73,28 @@ in_place grid bytes level i (suc m) same =
     let before = in_place grid bytes level i m (λ j l. same j (omega arith)) in
     omega (arith, here, there, before)
 
--- the m bytes of a grid from byte i on, as a slice of the code has them
-module _ (grid : List ℕ) (i m : ℕ) (fits : i + m ≤ length grid) where
-  abbrev pub stretch : List ℕ
-  stretch = take (i + m - i) (drop i grid)
+-- a grid in m stretches of n bytes
+pub length_chunks : (n m : ℕ) (grid : List ℕ) → length (first_chunks n m grid) ≡ m
+length_chunks n zero grid = refl
+length_chunks n (suc m) grid = ap suc (length_chunks n m (drop n grid))
 
-  pub stretch_length : length stretch ≡ m
-  stretch_length = rw (width i m) (length-take-le m (drop i grid) (omega (arith, length-drop i grid)))
+-- stretch k begins at byte k × n
+stretch_at : (n m k : ℕ) (grid none : List ℕ) → k < m → get_or (first_chunks n m grid) k none ≡ take n (drop (k * n) grid)
+stretch_at n zero k grid none l = absurd (omega arith)
+stretch_at n (suc m) zero grid none l = rw zero-mul refl
+stretch_at n (suc m) (suc k) grid none l = stretch_at n m k (drop n grid) none (omega arith) ∙ ap (take n) (drop-drop (k * n) n grid) ∙ ap (λ i. take n (drop i grid)) (omega (arith, suc-mul k n))
 
-  pub stretch_on : (level : ℕ) → count_to grid level (2 * i) + count_to stretch level (2 * length stretch) ≡ count_to grid level (2 * (i + m))
-  stretch_on level = rw (stretch_length, width i m) (in_place grid (take m (drop i grid)) level i m (λ j l. get_or-take m (drop i grid) j 0 l ∙ get_or-drop i grid j 0))
+-- the meshes of stretch k are added to those before it
+pub stretch_on : (n m k : ℕ) (grid none : List ℕ) (level : ℕ) → k < m → m * n ≤ length grid
+    → let stretch = get_or (first_chunks n m grid) k none in
+    count_to grid level (2 * (n * k)) + count_to stretch level (2 * length stretch) ≡ count_to grid level (2 * (n * (k + 1)))
+stretch_on n m k grid none level l fits =
+    let room : k * n + n ≤ length grid = omega (arith, suc-mul k n, mul-le-mul_right n l) in
+    let long : length (take n (drop (k * n) grid)) ≡ n = length-take-le n (drop (k * n) grid) (omega (arith, length-drop (k * n) grid)) in
+    let at : n * k ≡ k * n = mul_comm n k in
+    let next : n * (k + 1) ≡ k * n + n = omega (arith, mul_comm n (k + 1), suc-mul k n, ap (λ i. i * n) (add-one k)) in
+    rw (stretch_at n m k grid none l, long, at, next)
+    (in_place grid (take n (drop (k * n) grid)) level (k * n) n (λ j h. get_or-take n (drop (k * n) grid) j 0 h ∙ get_or-drop (k * n) grid j 0))
 
 -- dry bytes: none of their meshes is above level 0
 module _ (bytes : List ℕ) (dry : every (λ b. eqb b 0) bytes ≡ true) (level : ℕ) (above : 1 ≤ level) where

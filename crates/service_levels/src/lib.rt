@@ -2,6 +2,5 @@
 // Every public function answers for every value of its parameters, by an equation with a definition of specs/.
 #![tactic(auto)]
 
-pub mod result; // what the services answer
 mod counts; // the search for level 15; how many meshes are at or above a level
 pub mod meshes; // the level of a mesh; the count, with its refusals

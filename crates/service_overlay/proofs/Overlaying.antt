@@ -7,10 +7,7 @@ use native.Mathlib.Nat.{zero-add}
 use native.Mathlib.Omega.{arith}
 use lib.ListN.{length, set, take, drop}
 use lib.Seq.{sets, sets-eq, take_all, drop-length}
-use borrow.Author.Tests.{eqb-true, not-false}
 use Rattle.general_laws.specs.Bytes.{◌!◌}
-use Rattle.text.specs.Part.{grid_length}
-use Rattle.general_laws.proofs.Tests.{and_split}
 use Rattle.general_laws.proofs.Lists.{sets_on}
 use Rattle.service_levels.specs.Meshes.{is_grid}
 use Rattle.service_overlay_spec.specs.Overlay.{higher_byte, higher}
@@ -42,10 +39,3 @@ no_grids a b c = not_all (is_grid a) (is_grid b) (is_grid c)
     not_all false y z = refl
     not_all true false z = refl
     not_all true true z = refl
-
-pub one_length : (a b c : List ℕ) → ((not (is_grid a) || not (is_grid b)) || not (is_grid c)) ≡ false → (length a ≡ length c) × (length b ≡ length c)
-one_length a b c h =
-    let (two, t) = and_split (is_grid a && is_grid b) (is_grid c) (not-false (is_grid a && is_grid b && is_grid c) (no_grids a b c ∙ h)) in
-    let (p, r) = and_split (is_grid a) (is_grid b) two in
-    let k = eqb-true (length c) grid_length t in
-    (eqb-true (length a) grid_length p ∙ sym k, eqb-true (length b) grid_length r ∙ sym k)

@@ -6,21 +6,21 @@ use mathlib.Core.List.Memᴰ
 use mathlib.Core.List.{List, [], ◌∷◌, ◌++◌, map, map-append}
 use Prim.Native.Nat.{ℕ}
 use native.Mathlib.Nat.{max-zero}
+use Rattle.std.specs.Prelude.{Result, Ok, Err}
+use Rattle.refusals.specs.declared.refusal.Refusal.{Refusal}
 use Rattle.general_laws.proofs.Tests.{by_test}
 use Rattle.service_levels.specs.Meshes.{level_of, is_grid, done}
 use Rattle.service_overlay_spec.specs.Overlay.{OverlayOutcome, overlaid}
 use Rattle.service_overlay_spec.specs.Order.{is_grid_without_level15, ◌∈◌, AllWithoutLevel15, AllRightLength, highest_level, HighestOf, OverlayCall, call_on, outcome, RefusedWith, CallTree, arrived, laid, grid_left, calls_of, grids_of, thirds_of, SameGrids, lengths_right}
 use Rattle.service_overlay_spec.proofs.Laws.{overlay_claim}
 use Rattle.service_overlay.specs.Returned.{outcome_of}
-use Rattle.service_overlay.specs.declared.grids.OverlayResult.{OverlayResult}
-use Rattle.service_overlay.specs.declared.grids.OverlayResult.TheVariants.{Done, Refused}
 use Rattle.service_overlay_order.specs.CodeOrder.{Called, as_arrived, as_laid, AllDone, CodeOrder}
 
 -- the grid of an outcome is the third grid at the call's exit
-exit_is : (r : OverlayResult) (exit : List ℕ) → (outcome_of r exit).grid ≡ exit
+exit_is : (r : Result Unit Refusal) (exit : List ℕ) → (outcome_of r exit).grid ≡ exit
 unfolding outcome_of
-exit_is Done exit = refl
-exit_is (Refused n) exit = refl
+exit_is (Ok u) exit = refl
+exit_is (Err refusal) exit = refl
 
 as_defined : {t : CallTree} {grid : List ℕ} {made : List OverlayOutcome} → Called t grid made → (grid ≡ grid_left t) × (made ≡ map outcome (calls_of t))
 unfolding grid_left calls_of

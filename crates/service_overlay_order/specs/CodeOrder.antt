@@ -1,16 +1,16 @@
 -- A caller's tree of overlay calls of the code, by the contract of overlay alone, and what it comes to (Request 110). src/
 -- shows by a call that this is the contract. The theorem is `code_order_of_overlaying`: `CodeOrder` holds of every such
 -- tree. Assumes nothing.
-use Rattle.std.specs.Prelude.{◌≡◌, ◌≢◌, ◌⊎◌, false, ℕ}
+use Rattle.std.specs.Prelude.{◌≡◌, ◌≢◌, ◌⊎◌, false, ℕ, Result}
 use mathlib.Core.List.{List, [], ◌∷◌, ◌++◌, map, Perm}
+use Rattle.refusals.specs.declared.refusal.Refusal.{Refusal}
 use Rattle.service_levels.specs.Meshes.{done}
 use Rattle.service_overlay_spec.specs.Overlay.{OverlayOutcome, overlaid}
 use Rattle.service_overlay_spec.specs.Order.{is_grid_without_level15, ◌∈◌, AllWithoutLevel15, AllRightLength, HighestOf, OverlayCall, outcome, RefusedWith, CallTree, arrived, laid, grid_left, calls_of, grids_of, thirds_of, SameGrids}
 use Rattle.service_overlay.specs.Returned.{outcome_of}
-use Rattle.service_overlay.specs.declared.grids.OverlayResult.{OverlayResult}
 
 -- The contract of overlay: what a call returned, and the third grid at its exit. Request 110
-abbrev pub EnsuredOverlay : List ℕ → List ℕ → List ℕ → OverlayResult → List ℕ → Type 0
+abbrev pub EnsuredOverlay : List ℕ → List ℕ → List ℕ → Result Unit Refusal → List ℕ → Type 0
 EnsuredOverlay first second third r exit = outcome_of r exit ≡ overlaid first second third
 
 -- A caller's tree of calls: the grid that it left, and what each call returned and left. A call is lent the two grids that
@@ -18,7 +18,7 @@ EnsuredOverlay first second third r exit = outcome_of r exit ≡ overlaid first 
 pub data Called : CallTree → List ℕ → List OverlayOutcome → Type 0 where
   as_arrived : (grid : List ℕ) → Called (arrived grid) grid []
   as_laid : {t u : CallTree} {first second : List ℕ} {made others : List OverlayOutcome} → Called t first made → Called u second others
-      → (third : List ℕ) (r : OverlayResult) (exit : List ℕ) → EnsuredOverlay first second third r exit
+      → (third : List ℕ) (r : Result Unit Refusal) (exit : List ℕ) → EnsuredOverlay first second third r exit
       → Called (laid t u third) exit (made ++ (others ++ (outcome_of r exit ∷ [])))
 
 -- Every call was done. Request 110

@@ -1,11 +1,11 @@
 -- Slice calls one after the other: state, grid and last answer are those of all bytes so far. Assumes nothing.
 use mathlib.Core.Path.{◌≡◌, refl, sym, ap, ap₂, ◌∙◌, subst}
 use mathlib.Core.List.{List, [], ◌∷◌, ◌++◌}
-use Prim.Native.Nat.{ℕ, zero, suc, ◌+◌, ◌-◌, ◌≤◌, ◌<◌}
+use Prim.Native.Nat.{ℕ, zero, suc, ◌+◌, ◌-◌, ◌≤◌}
 use native.Mathlib.Omega.{arith}
 use lib.Dec.{eqb}
 use lib.ListN.{length, take, drop, length-drop}
-use lib.Seq.{take_all, take-add, length-take-le, get_or-append-add}
+use lib.Seq.{drop-drop, take_all, take-add, length-take-le, get_or-append-add}
 use Rattle.general_laws.specs.Bytes.{◌!◌}
 use Rattle.receiver_spec.specs.State
 use Rattle.receiver_spec.specs.Receiver.{step}
@@ -44,33 +44,29 @@ last_said : (n a : ℕ) → 1 ≤ n → spread n a ! (n - 1) ≡ a
 last_said zero a l = absurd (omega arith)
 last_said (suc n) a l = let e : suc n - 1 ≡ n = omega arith in ap (λ i. spread (suc n) a ! i) e ∙ spread_last n a
 
--- after the bytes up to a place
-pub record FedUpTo (bytes : List ℕ) (s : State) (g : List ℕ) (answer at : ℕ) : Type 0 where
+-- before the rest of the bytes
+pub record FedUpTo (bytes : List ℕ) (s : State) (g : List ℕ) (answer : ℕ) (rest : List ℕ) : Type 0 where
+  pub at : ℕ
   pub inside : at ≤ length bytes
+  pub left : rest ≡ drop at bytes
   pub state : state_of s ≡ state_after fresh empty_grid (take at bytes)
   pub grid : g ≡ grid_after fresh empty_grid (take at bytes)
   pub said : answer ≡ answers_of fresh empty_grid (take at bytes) ! (at - 1)
 
-pub begins : (bytes : List ℕ) (s : State) (g : List ℕ) → state_of s ≡ fresh → g ≡ empty_grid → FedUpTo bytes s g 0 0
+pub begins : (bytes : List ℕ) (s : State) (g : List ℕ) → state_of s ≡ fresh → g ≡ empty_grid → FedUpTo bytes s g 0 bytes
 unfolding state_after grid_after answers_of
-begins bytes s g e f = record { inside = omega arith; state = e; grid = f; said = refl }
+begins bytes s g e f = record { at = 0; inside = omega arith; left = refl; state = e; grid = f; said = refl }
 
 -- the grid keeps its length
-pub long : {bytes : List ℕ} {s : State} {g : List ℕ} {answer at : ℕ} → FedUpTo bytes s g answer at → length g ≡ length empty_grid
-long {bytes} {at} h =
-    ap length h.grid ∙ (steps_sound (take at bytes) fresh empty_grid (fresh_sound all_marks)).long ∙ sym (fresh_sound all_marks).long
+pub long : {bytes : List ℕ} {s : State} {g : List ℕ} {answer : ℕ} {rest : List ℕ} → FedUpTo bytes s g answer rest → length g ≡ length empty_grid
+long {bytes} h =
+    ap length h.grid ∙ (steps_sound (take h.at bytes) fresh empty_grid (fresh_sound all_marks)).long ∙ sym (fresh_sound all_marks).long
 
 -- one call more
-module _ {bytes : List ℕ} {s : State} {g : List ℕ} {answer at : ℕ} (h : FedUpTo bytes s g answer at) (l : at < length bytes)
-    (result : CallResult) (left : List ℕ) (called : returned result left ≡ slice_call (state_of s) g (take (length bytes - at) (drop at bytes))) where
+module _ {bytes : List ℕ} {s : State} {g : List ℕ} {answer : ℕ} {rest : List ℕ} (h : FedUpTo bytes s g answer rest)
+    (result : CallResult) (left : List ℕ) (e : returned result left ≡ slice_call (state_of s) g rest) where
   abbrev before : List ℕ
-  before = take at bytes
-
-  abbrev rest : List ℕ
-  rest = drop at bytes
-
-  e : returned result left ≡ slice_call (state_of s) g rest
-  e = called ∙ ap (slice_call (state_of s) g) (take_all (length bytes - at) rest (omega (arith, length-drop at bytes)))
+  before = take h.at bytes
 
   possible_on_grid : PossibleOnGrid (state_of s) g
   possible_on_grid = rw (h.state, h.grid) (steps_sound before fresh empty_grid (fresh_sound all_marks))
@@ -78,22 +74,24 @@ module _ {bytes : List ℕ} {s : State} {g : List ℕ} {answer at : ℕ} (h : Fe
   taken : SliceTaken (state_of s) g rest (returned result left)
   taken = rw e (call_taken (state_of s) g rest possible_on_grid)
 
-  pub some : 1 ≤ result.count
+  pub some : 1 ≤ length rest → 1 ≤ result.count
   unfolding returned
-  some = subst (λ (r : CallOutcome). 1 ≤ r.count) (sym e) (some_taken (state_of s) g rest possible_on_grid (omega (arith, length-drop at bytes)))
+  some l = subst (λ (r : CallOutcome). 1 ≤ r.count) (sym e) (some_taken (state_of s) g rest possible_on_grid l)
 
-  pub within : result.count ≤ length bytes - at
+  pub within : result.count ≤ length rest
   unfolding returned
-  within = omega (arith, taken.within, length-drop at bytes)
+  within = taken.within
 
-  split : take (at + result.count) bytes ≡ before ++ take result.count rest
-  split = take-add at result.count bytes
+  split : take (h.at + result.count) bytes ≡ before ++ take result.count rest
+  split = take-add h.at result.count bytes ∙ ap (λ t. before ++ take result.count t) (sym h.left)
 
-  pub goes_on : FedUpTo bytes result.state left (number_of result.answer) (at + result.count)
+  pub goes_on : {next : List ℕ} → 1 ≤ length rest → next ≡ drop result.count rest → FedUpTo bytes result.state left (number_of result.answer) next
   unfolding returned
-  goes_on =
+  goes_on l q =
       record {
-        inside = omega (arith, within);
+        at = h.at + result.count;
+        inside = omega (arith, within, ap length h.left, length-drop h.at bytes, h.inside);
+        left = q ∙ ap (drop result.count) h.left ∙ drop-drop result.count h.at bytes;
         state =
             taken.state ∙ ap₂ (λ t u. state_after t u (take result.count rest)) h.state h.grid
             ∙ sym (state_append before (take result.count rest) fresh empty_grid) ∙ ap (state_after fresh empty_grid) (sym split);
@@ -101,22 +99,22 @@ module _ {bytes : List ℕ} {s : State} {g : List ℕ} {answer at : ℕ} (h : Fe
             taken.grid ∙ ap₂ (λ t u. grid_after t u (take result.count rest)) h.state h.grid
             ∙ sym (grid_append before (take result.count rest) fresh empty_grid) ∙ ap (grid_after fresh empty_grid) (sym split);
         said =
-            sym (number_same result.answer) ∙ sym (last_said result.count (number (reply_of result.answer)) some)
+            sym (number_same result.answer) ∙ sym (last_said result.count (number (reply_of result.answer)) (some l))
             ∙ ap (λ (t : List ℕ). t ! (result.count - 1)) (sym taken.each)
             ∙ ap₂ (λ t u. answers_of t u (take result.count rest) ! (result.count - 1)) h.state h.grid
             ∙ sym (get_or-append-add (answers_of fresh empty_grid before) (answers_of (state_after fresh empty_grid before) (grid_after fresh empty_grid before) (take result.count rest)) (result.count - 1) 0)
-            ∙ ap₂ (λ (t : List ℕ) i. t ! i) (sym (answers_append before (take result.count rest) fresh empty_grid) ∙ ap (answers_of fresh empty_grid) (sym split)) place;
+            ∙ ap₂ (λ (t : List ℕ) i. t ! i) (sym (answers_append before (take result.count rest) fresh empty_grid) ∙ ap (answers_of fresh empty_grid) (sym split)) (place l);
       }
     where
-      place : length (answers_of fresh empty_grid before) + (result.count - 1) ≡ at + result.count - 1
-      place = omega (arith, answers_long before fresh empty_grid, length-take-le at bytes h.inside, some)
+      place : 1 ≤ length rest → length (answers_of fresh empty_grid before) + (result.count - 1) ≡ h.at + result.count - 1
+      place l = omega (arith, answers_long before fresh empty_grid, length-take-le h.at bytes h.inside, some l)
 
 -- all bytes are taken
-pub ended : {bytes : List ℕ} {s : State} {g : List ℕ} {answer at : ℕ} → FedUpTo bytes s g answer at → length bytes ≤ at
+pub ended : {bytes : List ℕ} {s : State} {g : List ℕ} {answer : ℕ} {rest : List ℕ} → FedUpTo bytes s g answer rest → length rest ≡ 0
     → (state_of s ≡ state_after fresh empty_grid bytes) × (answer ≡ answers_of fresh empty_grid bytes ! (length bytes - 1))
-ended {bytes} {s} {g} {answer} {at} h l =
-    let all : take at bytes ≡ bytes = take_all at bytes l in
-    let end : at ≡ length bytes = omega (arith, h.inside) in (
+ended {bytes} h l =
+    let end : h.at ≡ length bytes = omega (arith, h.inside, ap length h.left, length-drop h.at bytes) in
+    let all : take h.at bytes ≡ bytes = take_all h.at bytes (omega (arith, end)) in (
       h.state ∙ ap (state_after fresh empty_grid) all,
       h.said ∙ ap₂ (λ t i. answers_of fresh empty_grid t ! (i - 1)) all end,
     )

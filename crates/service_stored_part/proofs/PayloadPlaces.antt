@@ -19,7 +19,7 @@ use Rattle.general_laws.proofs.Tests.{or_split, neither}
 use Rattle.text_laws.proofs.KindTable.{data_least}
 use Rattle.text_laws.proofs.Parts.{start_at, part_length_settled}
 use Rattle.text_laws.proofs.Deciding.{part_decided}
-use Rattle.service_stored_part.specs.Stored.{has_text, text_payload}
+use Rattle.service_stored_part.specs.Stored.{has_text, text_payload, payload_at, PayloadPlace}
 use Rattle.service_stored_part.proofs.OnePart.{numbered, part_long}
 
 -- ---- cut blocks
@@ -52,19 +52,8 @@ payload_of_lem size bytes l =
 
 -- ---- lengths
 
--- where the payload of data text k begins
-abbrev pub payload_at : ℕ → ℕ → ℕ
-payload_at block k = 48 + (k - 1) * (block - 3 + 11)
-
 reach : (j last size : ℕ) → suc j ≤ last → 48 + j * (size + 11) + size ≤ 40 + (last * (size + 11) + 40)
 reach j last size l = omega (arith, mul-le-mul_right (size + 11) l)
-
--- what holds of a text that is there
-pub record PayloadPlace (bytes : List ℕ) (block k : ℕ) : Type 0 where
-  pub first : 1 ≤ k
-  pub size : 103 ≤ block
-  pub room : payload_at block k + (block - 3) ≤ length bytes
-  pub given : take (payload_at block k + (block - 3) - payload_at block k) (drop (payload_at block k) bytes) ≡ text_payload bytes k
 
 -- ---- an undamaged part
 

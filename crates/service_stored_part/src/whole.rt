@@ -1,16 +1,16 @@
 // Whether bytes are exactly one undamaged part: a fresh receiver takes them and says so.
-ghost use Rattle.std.specs.Prelude.{◌≡◌, ◌-◌, length};
+ghost use Rattle.std.specs.Prelude.{◌≡◌, ◌-◌, ◌==◌, length};
 ghost use Rattle.general_laws.specs.Bytes.{◌!◌};
 ghost use Rattle.text.specs.Part.{is_undamaged_part};
 ghost use Rattle.receiver_spec.specs.Marks.{all_marks};
 ghost use Rattle.receiver_spec.specs.State;
 ghost use Rattle.receiver_spec.specs.State.{empty_grid};
 ghost use Rattle.receiver_spec.specs.Calls.{answers_of, state_after};
-ghost use Rattle.receiver_state.specs.Meaning.{state_of};
+ghost use Rattle.receiver_state.specs.Meaning.{state_of, number_of};
 
 use receiver_marks::marks::all_marks;
 use receiver_slice_call::calls::slice_call;
-use receiver_state::answer::number_of;
+use receiver_state::answer::Answer;
 use receiver_state::state::{State, fresh};
 use text_kinds::table::part_of_kind;
 use text_lengths::part::part_length;
@@ -19,7 +19,7 @@ use text_lengths::part::part_length;
 #[derive(Clone, Copy)]
 struct FeedResult {
     state: State,
-    answer: u8,
+    answer: Answer,
 }
 
 // A fresh receiver with all twenty marks (Request 101): a stored part of any picture is looked at
@@ -33,20 +33,29 @@ fn fresh_for_all() -> State
 fn feed_all(grid: &mut [u8], bytes: &[u8]) -> FeedResult
     requires { grid.old ≡ empty_grid }
     ensures state_value { state_of result.state ≡ state_after (Rattle.receiver_spec.specs.State.fresh all_marks) empty_grid bytes.now }
-    ensures answer_value { result.answer ≡ answers_of (Rattle.receiver_spec.specs.State.fresh all_marks) empty_grid bytes.now ! (length bytes.now - 1) }
+    ensures answer_value { number_of result.answer ≡ answers_of (Rattle.receiver_spec.specs.State.fresh all_marks) empty_grid bytes.now ! (length bytes.now - 1) }
 {
-    let mut s = fresh_for_all();
-    let mut answer = 0;
-    let mut at = 0;
-    while at < bytes.len() {
-        let result = slice_call(s, grid, &bytes[at..]);
-        at += result.count;
-        let next = result.state;
-        s = next;
-        let said = result.answer;
-        answer = number_of(said);
+    let mut fed = FeedResult {
+        state: fresh_for_all(),
+        answer: Answer::Quiet,
+    };
+    let mut rest = bytes;
+    while !rest.is_empty() {
+        let call = slice_call(fed.state, grid, rest);
+        rest = &rest[call.count..];
+        fed = FeedResult {
+            state: call.state,
+            answer: call.answer,
+        };
     }
-    FeedResult { state: s, answer }
+    fed
+}
+
+// Whether an answer is 3
+fn is_complete(a: Answer) -> bool
+    ensures { result ≡ (number_of a == 3) }
+{
+    matches!(a, Answer::Complete(_))
 }
 
 // Whether bytes are exactly one undamaged part. The kind of a part's end text stands 33 bytes before
@@ -60,8 +69,7 @@ pub fn is_undamaged_part(bytes: &[u8]) -> bool
     }
     let mut grid = [0u8; 20000];
     let fed = feed_all(&mut grid, bytes);
-    let state = fed.state;
-    let header = state.header;
+    let header = fed.state.header;
     let part = part_of_kind(bytes[bytes.len() - 33]);
-    (fed.answer == 3) & (bytes.len() == part_length(part, header.noecho))
+    is_complete(fed.answer) & (bytes.len() == part_length(part, header.noecho))
 }

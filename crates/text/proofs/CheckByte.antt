@@ -1,12 +1,11 @@
 -- The laws of the exclusive or over a list. Assumes nothing.
 use mathlib.Core.Path.{◌≡◌, refl, sym, ap, ◌∙◌}
 use mathlib.Core.List.{List, [], ◌∷◌, ◌++◌}
-use Prim.Native.Nat.{ℕ, suc, ◌-◌, ◌<◌}
+use Prim.Native.Nat.{ℕ, suc, ◌<◌}
 use native.Mathlib.Omega.{arith}
 use lib.Bits.{bit_xor, xor_zero_l, xor_zero_r, xor_lt}
 use lib.Dec.{lit<}
-use lib.ListN.{length, get_or, take, drop, length-drop, take-append-drop}
-use lib.Seq.{take_all}
+use lib.ListN.{length, get_or, take, drop, take-append-drop}
 use Rattle.general_laws.proofs.Bits.{xor_assoc}
 use Rattle.text.specs.Text.{xor_all}
 
@@ -27,11 +26,9 @@ xor_all_one [] h = absurd (omega arith)
 xor_all_one (b ∷ []) h = sym (xor_zero_r b)
 xor_all_one (b ∷ a ∷ s) h = absurd (omega arith)
 
--- the two halves of a slice, the second a part that starts at m
-pub xor_all_halves : (s : List ℕ) (m : ℕ) → bit_xor (xor_all (take m s)) (xor_all (take (length s - m) (drop m s))) ≡ xor_all s
-xor_all_halves s m =
-    let whole : take (length s - m) (drop m s) ≡ drop m s = take_all (length s - m) (drop m s) (simp length-drop (omega arith)) in
-    rw (whole, ← xor_all_append, take-append-drop)
+-- the two halves of a slice, the second from m on
+pub xor_all_halves : (s : List ℕ) (m : ℕ) → bit_xor (xor_all (take m s)) (xor_all (drop m s)) ≡ xor_all s
+xor_all_halves s m = rw (← xor_all_append, take-append-drop)
 
 -- the exclusive or of bytes is a byte
 pub xor_all_lt : (s : List ℕ) → ((i : ℕ) → get_or s i 0 < 256) → xor_all s < 256

@@ -6,16 +6,9 @@ ghost use Rattle.general_laws.specs.Bytes.{every, put_at};
 pub fn put(output: &mut [u8], at: usize, bytes: &[u8])
     ensures { output.new ≡ put_at output.old at bytes.now }
 {
-    if output.len() < bytes.len() {
-        return;
-    }
-    if output.len() - bytes.len() < at {
-        return;
-    }
-    let mut i = 0;
-    while i < bytes.len() {
-        output[at + i] = bytes[i];
-        i += 1;
+    let end = at.saturating_add(bytes.len());
+    if end <= output.len() {
+        output[at..end].copy_from_slice(bytes);
     }
 }
 
@@ -24,10 +17,8 @@ pub fn are_zero(bytes: &[u8]) -> bool
     ensures { result ≡ every (λ b. eqb b 0) bytes.now }
 {
     let mut zero = true;
-    let mut i = 0;
-    while i < bytes.len() {
-        zero = zero & (bytes[i] == 0);
-        i += 1;
+    for b in bytes {
+        zero = zero & (*b == 0);
     }
     zero
 }

@@ -7,17 +7,14 @@ ghost use Rattle.text.specs.Text.{xor_all, check_byte};
 pub fn xor_all(block: &[u8]) -> u8
     ensures { result ≡ xor_all block.now }
 {
-    let n = block.len();
-    if n == 0 {
-        return 0;
+    match block {
+        [] => 0,
+        [only] => *only,
+        _ => {
+            let (first, second) = block.split_at(block.len() / 2);
+            xor_all(first) ^ xor_all(second)
+        }
     }
-    if n == 1 {
-        return block[0];
-    }
-    let middle = n / 2;
-    let first = xor_all(&block[..middle]);
-    let second = xor_all(&block[middle..]);
-    first ^ second
 }
 
 // The check byte, BCC: the exclusive or of all block bytes and the `FE`, which comes in last.

@@ -9,16 +9,12 @@ ghost use Rattle.text.specs.DataBlock.{is_payload_byte};
 pub fn is_payload_byte(part: u8, b: u8) -> bool
     ensures { result ≡ is_payload_byte part b }
 {
-    if part == 1 {
-        return (b / 16 <= 14) & (b % 16 <= 14);
+    match part {
+        1 => (b / 16 <= 14) & (b % 16 <= 14),
+        2 => b <= 8,
+        3 => (b <= 0x7F) | (b == 0x80),
+        _ => false,
     }
-    if part == 2 {
-        return b <= 8;
-    }
-    if part == 3 {
-        return (b <= 0x7F) | (b == 0x80);
-    }
-    false
 }
 
 // Whether all bytes may stand in the payload of a part. The loop has no way out, so that the
@@ -28,10 +24,8 @@ pub fn are_payload_bytes(part: u8, bytes: &[u8]) -> bool
     ensures { result ≡ every (is_payload_byte part) bytes.now }
 {
     let mut kept = true;
-    let mut i = 0;
-    while i < bytes.len() {
-        kept = kept & is_payload_byte(part, bytes[i]);
-        i += 1;
+    for b in bytes {
+        kept = kept & is_payload_byte(part, *b);
     }
     kept
 }

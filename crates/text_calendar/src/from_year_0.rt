@@ -1,7 +1,7 @@
 // Dates and times as days and minutes counted from 1 January 0000, 00:00, and the way back (Request
 // 111). What is asked here lies within the years 0000 to 9999: callers see to that.
 ghost use Rattle.std.specs.Prelude.{◌≡◌, true, ◌+◌, ◌≤◌, ◌<◌};
-ghost use Rattle.text_calendar_spec.specs.Calendar.{is_moment};
+ghost use Rattle.text_calendar_spec.specs.Calendar.{is_in_calendar};
 ghost use Rattle.text_calendar_spec.specs.Minutes.{days_of_year, days_before_year, days_of_months, day_of, minutes_before, year_at, moment_in, moment_at};
 
 use crate::days::days_in;
@@ -21,35 +21,29 @@ fn days_of_months(year: u32, count: u32) -> u32
     ensures { result ≡ days_of_months year count }
 {
     let mut days = 0;
-    let mut i = 0;
-    while i < count {
+    for i in 0..count {
         days += days_in(year, i + 1);
-        i += 1;
     }
     days
 }
 
 // The days before a date. Request 111
-fn day_of(year: u32, month: u32, day: u32) -> u32
-    requires year_bound { year ≤ 9999 }
-    requires month_bound { month ≤ 12 }
-    requires le_month { 1 ≤ month }
-    requires day_bound { day ≤ 31 }
-    requires le_day { 1 ≤ day }
-    ensures { result ≡ day_of year month day }
+fn day_of(t: Moment) -> u32
+    requires { is_in_calendar t ≡ true }
+    ensures { result ≡ day_of t.year t.month t.day }
 {
-    let years = days_before_year(year);
-    let months = days_of_months(year, month - 1);
-    years + months + (day - 1)
+    let years = days_before_year(t.year);
+    let months = days_of_months(t.year, t.month - 1);
+    years + months + (t.day - 1)
 }
 
 // The minutes before a date and time. Request 111
-pub(crate) fn minutes_before(year: u32, month: u32, day: u32, hour: u32, minute: u32) -> u64
-    requires { is_moment year month day hour minute ≡ true }
-    ensures { result ≡ minutes_before year month day hour minute }
+pub(crate) fn minutes_before(t: Moment) -> u64
+    requires { is_in_calendar t ≡ true }
+    ensures { result ≡ minutes_before t.year t.month t.day t.hour t.minute }
 {
-    let days = day_of(year, month, day);
-    (days as u64) * 1440 + (hour as u64) * 60 + (minute as u64)
+    let days = day_of(t);
+    (days as u64) * 1440 + (t.hour as u64) * 60 + (t.minute as u64)
 }
 
 // A year that has begun on a day, and is its year or one of the two before it: 400 years have 146,097
@@ -66,6 +60,7 @@ fn year_near(day: u32) -> u32
 }
 
 // The year of a day: from one that is near it, year by year. Request 111
+// Stays a while: a search that ends at the year; a `for` would need an end, and an answer past it.
 fn year_at(day: u32) -> u32
     requires { day < 3652425 }
     ensures { result ≡ year_at day }
@@ -78,6 +73,7 @@ fn year_at(day: u32) -> u32
 }
 
 // The date and time of minute n of a day of a year: month by month. Request 111
+// Stays a loop: a search that ends in the month; a `for` would need an answer for a day past December.
 fn moment_in(year: u32, day: u32, n: u32) -> Moment
     requires { day < days_of_year year }
     ensures { result ≡ moment_in year day n }

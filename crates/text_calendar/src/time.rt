@@ -3,9 +3,9 @@ ghost use Rattle.std.specs.Prelude.{◌≡◌, ◌+◌, ◌<◌, leb};
 ghost use Rattle.general_laws.specs.Bytes.{◌!◌, every};
 ghost use Rattle.text_calendar_spec.specs.TimeDigits.{two_digits, time_check, digits_at};
 
-use crate::days::is_moment;
+use crate::days::is_in_calendar;
 use crate::minutes::{minute_of, moment_of};
-use text_calendar_spec::time::TimeCheck;
+use text_calendar_spec::time::Moment;
 
 // The number that the two digits at place i and the next give. Notice 49, 4(1)(1-1)(d)(イ)
 fn two_digits(digits: [u8; 12], i: usize) -> u32
@@ -19,31 +19,26 @@ fn two_digits(digits: [u8; 12], i: usize) -> u32
 pub fn are_digits(digits: [u8; 12]) -> bool
     ensures { result ≡ every (λ d. leb d 9) digits }
 {
-    let mut i = 0;
-    while i < 12 {
-        if 9 < digits[i] {
-            return false;
-        }
-        i += 1;
-    }
-    true
+    digits.iter().all(|d| *d <= 9)
 }
 
-// The time check: the minute that twelve digits YYYYMMDDhhmm give, or invalid. Request 111; Notice 49,
+// The time check: the minute that twelve digits YYYYMMDDhhmm give, or none. Request 111; Notice 49,
 // 4(1)(1-1)(d)(イ)
-pub fn time_check(digits: [u8; 12]) -> TimeCheck
+pub fn time_check(digits: [u8; 12]) -> Option<i64>
     ensures { result ≡ time_check digits }
 {
-    let year = two_digits(digits, 0) * 100 + two_digits(digits, 2);
-    let month = two_digits(digits, 4);
-    let day = two_digits(digits, 6);
-    let hour = two_digits(digits, 8);
-    let minute = two_digits(digits, 10);
+    let t = Moment {
+        year: two_digits(digits, 0) * 100 + two_digits(digits, 2),
+        month: two_digits(digits, 4),
+        day: two_digits(digits, 6),
+        hour: two_digits(digits, 8),
+        minute: two_digits(digits, 10),
+    };
     let small = are_digits(digits);
-    if small & is_moment(year, month, day, hour, minute) {
-        return TimeCheck::Minute(minute_of(year, month, day, hour, minute));
+    if small & is_in_calendar(t) {
+        return Some(minute_of(t));
     }
-    TimeCheck::Invalid
+    None
 }
 
 // The twelve digits YYYYMMDDhhmm of a minute; twelve 0 where it is not of the years 0000 to 9999.

@@ -1,21 +1,20 @@
 -- The twelve digits of a date and time, and the date and time of twelve digits. Assumes nothing.
 use Prim.Native.Nat.{ℕ, ◌+◌, ◌*◌, ◌/◌, ◌%◌, ◌<◌, ◌≤◌}
-use mathlib.Core.Path.{◌≡◌, sym, ap}
-use mathlib.Core.Bool.{Bool, true, false, false≢true}
+use mathlib.Core.Path.{◌≡◌, sym}
+use mathlib.Core.Bool.{true, false}
 use mathlib.Core.List.{List}
 use native.Mathlib.Omega.{arith}
 use borrow.Author.Tests.{leb-true, le-leb}
 use lib.Dec.{leb}
 use lib.ListN.{length}
-use lib.IntN.{ℤ, pos}
+use lib.IntN.{ℤ}
 use Rattle.general_laws.specs.Bytes.{◌!◌, every}
 use Rattle.general_laws.proofs.Tests.{by_test, and_split, every_at}
 use Rattle.general_laws.proofs.Places.{by_place}
 use Rattle.text_calendar_spec.specs.Calendar.{moment, is_in_calendar}
 use Rattle.text_calendar_spec.specs.TimeDigits.{year_of, two_digits, is_time, minute_in, time_check, digits_for}
 use Rattle.text_calendar_spec.specs.declared.time.Moment.{Moment}
-use Rattle.text_calendar_spec.specs.declared.time.TimeCheck.{TimeCheck}
-use Rattle.text_calendar_spec.specs.declared.time.TimeCheck.TheVariants.{Minute, Invalid}
+use Rattle.std.specs.Prelude.{Some, None}
 use Rattle.text_calendar_spec.proofs.Days.{month_most}
 use Rattle.text_calendar_spec.proofs.Moments.{in_calendar}
 
@@ -106,29 +105,14 @@ module _ (ds : List ℕ) (h : is_time ds ≡ true) where
 
 -- ---- what the time check gives
 
--- the minute that it gives, 0 where it gives none, and whether it does
-minute_given : TimeCheck → ℤ
-minute_given (Minute z) = z
-minute_given Invalid = pos 0
-
-is_given : TimeCheck → Bool
-is_given (Minute z) = true
-is_given Invalid = false
-
-pub checked_minute : (ds : List ℕ) (z : ℤ) → time_check ds ≡ Minute z → (is_time ds ≡ true) × (z ≡ minute_in ds)
-unfolding time_check minute_given is_given
+pub checked_minute : (ds : List ℕ) (z : ℤ) → time_check ds ≡ Some z → (is_time ds ≡ true) × (z ≡ minute_in ds)
+unfolding time_check
 checked_minute ds z e =
-    by_test (is_time ds) (λ t. (t, given t)) (λ t. absurd (false≢true (none t)))
-  where
-    given : is_time ds ≡ true → z ≡ minute_in ds
-    given t = let f : Minute (minute_in ds) ≡ Minute z = rw t at e in sym (ap minute_given f)
+    by_test (is_time ds)
+    (λ t. let f : Some (minute_in ds) ≡ Some z = rw t at e in (t, cc))
+    (λ t. let f : None ≡ Some z = rw t at e in cc)
 
-    none : is_time ds ≡ false → false ≡ true
-    none t = let f : Invalid ≡ Minute z = rw t at e in ap is_given f
-
-pub checked_invalid : (ds : List ℕ) → time_check ds ≡ Invalid → is_time ds ≡ false
-unfolding time_check is_given
-checked_invalid ds e = by_test (is_time ds) (λ t. absurd (false≢true (some t))) (λ t. t)
-  where
-    some : is_time ds ≡ true → false ≡ true
-    some t = let f : Minute (minute_in ds) ≡ Invalid = rw t at e in sym (ap is_given f)
+pub checked_invalid : (ds : List ℕ) → time_check ds ≡ None → is_time ds ≡ false
+unfolding time_check
+checked_invalid ds e =
+    by_test (is_time ds) (λ t. let f : Some (minute_in ds) ≡ None = rw t at e in cc) (λ t. t)

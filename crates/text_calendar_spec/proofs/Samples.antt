@@ -8,7 +8,7 @@ use Rattle.general_laws.specs.Bytes.{is_in, every, all_of}
 use Rattle.text_calendar_spec.specs.Calendar.{is_leap_year, days_in, is_moment, moment}
 use Rattle.text_calendar_spec.specs.Minutes.{together, days_of_year, days_before_year, days_of_months, day_of, minutes_before, epoch, minute_of, is_minute, span_from, year_at, month_in, moment_in, moment_at, moment_of}
 use Rattle.text_calendar_spec.specs.TimeDigits.{year_of, is_time, minute_in, time_check, digits_for, digits_at}
-use Rattle.text_calendar_spec.specs.declared.time.TimeCheck.TheVariants.{Minute, Invalid}
+use Rattle.std.specs.Prelude.{Some, None}
 
 -- Request 111
 pub record MinuteRows : Type 0 where
@@ -31,8 +31,8 @@ pub record MinuteRows : Type 0 where
   -- the way back
   pub back : (moment_of (neg_ℤ (pos 298790)) ≡ moment 1999 6 7 12 10) × (moment_of (pos 84960) ≡ moment 2000 2 29 0 0) × (moment_of (neg_ℤ (pos 1051898400)) ≡ moment 0 1 1 0 0) × (moment_of (pos 4207593600) ≡ moment 0 0 0 0 0)
   -- the time check, and the digits of a minute
-  pub checked : time_check (1 ∷ 9 ∷ 9 ∷ 9 ∷ 1 ∷ 2 ∷ 3 ∷ 1 ∷ 2 ∷ 3 ∷ 5 ∷ 9 ∷ []) ≡ Minute (neg_ℤ (pos 1))
-  pub invalid : time_check (1 ∷ 9 ∷ 9 ∷ 9 ∷ 0 ∷ 2 ∷ 2 ∷ 9 ∷ 0 ∷ 0 ∷ 0 ∷ 0 ∷ []) ≡ Invalid
+  pub checked : time_check (1 ∷ 9 ∷ 9 ∷ 9 ∷ 1 ∷ 2 ∷ 3 ∷ 1 ∷ 2 ∷ 3 ∷ 5 ∷ 9 ∷ []) ≡ Some (neg_ℤ (pos 1))
+  pub invalid : time_check (1 ∷ 9 ∷ 9 ∷ 9 ∷ 0 ∷ 2 ∷ 2 ∷ 9 ∷ 0 ∷ 0 ∷ 0 ∷ 0 ∷ []) ≡ None
   pub digits : digits_at (neg_ℤ (pos 1)) ≡ 1 ∷ 9 ∷ 9 ∷ 9 ∷ 1 ∷ 2 ∷ 3 ∷ 1 ∷ 2 ∷ 3 ∷ 5 ∷ 9 ∷ []
 
 pub minute_rows : MinuteRows

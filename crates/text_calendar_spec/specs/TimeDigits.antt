@@ -1,11 +1,9 @@
 -- The twelve digits of a time, YYYYMMDDhhmm, as numbers 0 to 9. Assumes nothing.
-use Rattle.std.specs.Prelude.{ℕ, ◌+◌, ◌*◌, ◌/◌, ◌%◌, Bool, cond, ◌&&◌, List, [], ◌∷◌, leb, ℤ}
+use Rattle.std.specs.Prelude.{ℕ, ◌+◌, ◌*◌, ◌/◌, ◌%◌, Bool, cond, ◌&&◌, List, [], ◌∷◌, leb, ℤ, Option, Some, None}
 use Rattle.general_laws.specs.Bytes.{◌!◌, every}
 use Rattle.text_calendar_spec.specs.Calendar.{is_moment, moment}
 use Rattle.text_calendar_spec.specs.Minutes.{minute_of, moment_of}
 use Rattle.text_calendar_spec.specs.declared.time.Moment.{Moment}
-use Rattle.text_calendar_spec.specs.declared.time.TimeCheck.{TimeCheck}
-use Rattle.text_calendar_spec.specs.declared.time.TimeCheck.TheVariants.{Minute, Invalid}
 
 -- The year of the twelve digits. Notice 49, 4(1)(1-1)(d)(イ)
 unfoldable pub year_of : List ℕ → ℕ
@@ -26,9 +24,9 @@ unfoldable pub minute_in : List ℕ → ℤ
 minute_in ds =
     minute_of (moment (year_of ds) (two_digits (ds ! 4) (ds ! 5)) (two_digits (ds ! 6) (ds ! 7)) (two_digits (ds ! 8) (ds ! 9)) (two_digits (ds ! 10) (ds ! 11)))
 
--- The time check: the minute that twelve digits give, or invalid. Request 111; Notice 49, 4(1)(1-1)(d)(イ)
-unfoldable pub time_check : List ℕ → TimeCheck
-time_check ds = cond (is_time ds) (Minute (minute_in ds)) Invalid
+-- The time check: the minute that twelve digits give, or none where they are no date and time. Request 111; Notice 49, 4(1)(1-1)(d)(イ)
+unfoldable pub time_check : List ℕ → Option ℤ
+time_check ds = cond (is_time ds) (Some (minute_in ds)) None
 
 -- The twelve digits of a date and time. Notice 49, 4(1)(1-1)(d)(イ)
 unfoldable pub digits_for : Moment → List ℕ

@@ -1,5 +1,5 @@
 // Layer 1, calendar: what a date and time are, and minutes counted from 1 January 2000, 00:00 (Request
-// 111). The definitions and their laws; of code there are the types alone.
+// 111). The definitions and their laws; of code there is the type alone.
 #![tactic(auto)]
 
-pub mod time; // a date and time by its numbers, and what the time check gives
+pub mod time; // a date and time by its numbers

@@ -2,44 +2,35 @@
 ghost use Rattle.std.specs.Prelude.{◌≡◌};
 ghost use Rattle.text_code_words.specs.Words.{digit_of, byte_of, code_of};
 
-// What stands for the value of a letter that is no digit
-const NO_DIGIT: u8 = 16;
-
-// The value of a hexadecimal digit
-fn digit(letter: u8) -> u8
+// The value of a hexadecimal digit, or none
+// Stays a match: the library's `to_digit` is of `char` and `u32`, so it would take a cast each way.
+#[tactic(auto, unfolding(crate::specs::Words::digit_of))]
+fn digit(letter: u8) -> Option<u8>
     ensures { result ≡ digit_of letter }
 {
-    if (b'0' <= letter) & (letter <= b'9') {
-        return letter - b'0';
+    match letter {
+        b'0'..=b'9' => Some(letter - b'0'),
+        b'A'..=b'F' => Some(letter - b'A' + 10),
+        b'a'..=b'f' => Some(letter - b'a' + 10),
+        _ => None,
     }
-    if (b'A' <= letter) & (letter <= b'F') {
-        return letter - b'A' + 10;
-    }
-    if (b'a' <= letter) & (letter <= b'f') {
-        return letter - b'a' + 10;
-    }
-    NO_DIGIT
 }
 
-// The byte of two digits; 0, which is no listed code, where one of them is no digit
-fn byte_of(high: u8, low: u8) -> u8
-    ensures { result ≡ byte_of high low }
+// The byte of two digits, or none where one of them is no digit
+#[tactic(auto, unfolding(crate::specs::Words::digit_of))]
+fn byte_of(high: u8, low: u8) -> Option<u8>
+    ensures { result ≡ byte_of (digit_of high) (digit_of low) }
 {
-    if high >= NO_DIGIT {
-        return 0;
-    }
-    if low >= NO_DIGIT {
-        return 0;
-    }
-    high * 16 + low
+    Some(digit(high)? * 16 + digit(low)?)
 }
 
 // The byte that a word stands for; 0, which is no listed code, where it is not two digits
+#[tactic(auto, unfolding(crate::specs::Words::code_of))]
 pub fn code_of(word: &[u8]) -> u8
     ensures { result ≡ code_of word.now }
 {
-    if word.len() != 2 {
-        return 0;
+    match word {
+        [high, low] => byte_of(*high, *low).unwrap_or(0),
+        _ => 0,
     }
-    byte_of(digit(word[0]), digit(word[1]))
 }

@@ -4,54 +4,60 @@ ghost use Rattle.text.specs.Pictures.{is_picture_code};
 ghost use Rattle.text.specs.StartBlock.{is_radar_code};
 
 // Whether a byte is one of the 20 picture codes. Notice 49, 5(1)
+#[tactic(auto, unfolding(text::specs::Pictures::is_picture_code, text::specs::Pictures::picture_codes, general_laws::specs::Bytes::is_in))]
 pub fn is_picture_code(b: u8) -> bool
     ensures { result ≡ is_picture_code b }
 {
-    (b == 0xC0)
-        | (b == 0xC1)
-        | (b == 0xC2)
-        | (b == 0xC4)
-        | (b == 0xC5)
-        | (b == 0xC8)
-        | (b == 0xC9)
-        | (b == 0xCC)
-        | (b == 0xD2)
-        | (b == 0xD3)
-        | (b == 0xD4)
-        | (b == 0xD5)
-        | (b == 0xD8)
-        | (b == 0xDC)
-        | (b == 0xE0)
-        | (b == 0xE1)
-        | (b == 0xE4)
-        | (b == 0xE5)
-        | (b == 0xF0)
-        | (b == 0xF1)
+    matches!(
+        b,
+        0xC0 | 0xC1
+            | 0xC2
+            | 0xC4
+            | 0xC5
+            | 0xC8
+            | 0xC9
+            | 0xCC
+            | 0xD2
+            | 0xD3
+            | 0xD4
+            | 0xD5
+            | 0xD8
+            | 0xDC
+            | 0xE0
+            | 0xE1
+            | 0xE4
+            | 0xE5
+            | 0xF0
+            | 0xF1
+    )
 }
 
 // Whether a byte is one of the 21 radar codes. Notice 49, 5(2)
+#[tactic(auto, unfolding(text::specs::StartBlock::is_radar_code, text::specs::StartBlock::radar_codes, general_laws::specs::Bytes::is_in))]
 pub fn is_radar_code(b: u8) -> bool
     ensures { result ≡ is_radar_code b }
 {
-    (b == 0xA0)
-        | (b == 0xA1)
-        | (b == 0xA2)
-        | (b == 0xA3)
-        | (b == 0xA4)
-        | (b == 0xA5)
-        | (b == 0xA7)
-        | (b == 0xA8)
-        | (b == 0xA9)
-        | (b == 0xAA)
-        | (b == 0xAB)
-        | (b == 0xAC)
-        | (b == 0xAD)
-        | (b == 0xAE)
-        | (b == 0xAF)
-        | (b == 0xB0)
-        | (b == 0xB1)
-        | (b == 0xB3)
-        | (b == 0xB4)
-        | (b == 0xB5)
-        | (b == 0xB6)
+    matches!(
+        b,
+        0xA0 | 0xA1
+            | 0xA2
+            | 0xA3
+            | 0xA4
+            | 0xA5
+            | 0xA7
+            | 0xA8
+            | 0xA9
+            | 0xAA
+            | 0xAB
+            | 0xAC
+            | 0xAD
+            | 0xAE
+            | 0xAF
+            | 0xB0
+            | 0xB1
+            | 0xB3
+            | 0xB4
+            | 0xB5
+            | 0xB6
+    )
 }

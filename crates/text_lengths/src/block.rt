@@ -1,4 +1,6 @@
 // The lengths of blocks.
+// Parts and kinds stay numbers: they are bytes of the line, and the definitions of `text/specs/Kinds`
+// answer for each number, 0 where there is none.
 ghost use Rattle.std.specs.Prelude.{◌≡◌};
 ghost use Rattle.text.specs.Kinds.{block_length, data_block_length};
 
@@ -6,36 +8,27 @@ use text_kinds::table::part_of_kind;
 
 // The length of a data block; 0 where there is no such part.
 // Notice 49, 4(1)(1-1)(b)(イ), 4(1)(1-2)(b)(イ), 4(2)(b)(イ)
+#[tactic(auto, unfolding(text::specs::Kinds::data_block_length))]
 pub fn data_block_length(part: u8) -> u16
     ensures { result ≡ data_block_length part }
 {
-    if part == 1 {
-        return 2003;
+    match part {
+        1 => 2003,
+        2 => 403,
+        3 => 103,
+        _ => 0,
     }
-    if part == 2 {
-        return 403;
-    }
-    if part == 3 {
-        return 103;
-    }
-    0
 }
 
 // The length of a kind's block; 0 where the byte is no kind.
 // Notice 49, 4(1)(1-1)(b)(ア) to (ウ), 4(1)(1-2)(b)(イ), 4(2)(b)(イ)
+#[tactic(auto, unfolding(text::specs::Kinds::block_length, text::specs::Kinds::is_kind, text::specs::Kinds::is_data_kind, text::specs::Kinds::part_of, text::specs::Kinds::text_number, text::specs::Kinds::kinds, text::specs::Kinds::data_block_length))]
 pub fn block_length(b: u8) -> u16
     ensures { result ≡ block_length b }
 {
-    let part = part_of_kind(b);
-    if part == 0 {
-        return 0;
+    match (part_of_kind(b), b % 16) {
+        (0, _) => 0,
+        (_, 0 | 15) => 32,
+        (part, _) => data_block_length(part),
     }
-    let low = b % 16;
-    if low == 0 {
-        return 32;
-    }
-    if low == 15 {
-        return 32;
-    }
-    data_block_length(part)
 }

@@ -1,19 +1,15 @@
 -- What reading a whole start block gives: its header, where the block keeps every rule. Assumes nothing.
-use Rattle.std.specs.Prelude.{ℕ, Bool, true, false, cond, List, [], ◌∷◌, eqb}
+use Rattle.std.specs.Prelude.{ℕ, Bool, cond, List, [], ◌∷◌, eqb, Option, Some, None}
 use Rattle.general_laws.specs.Bytes.{◌!◌, all_of}
 use Rattle.text.specs.Text.{FD}
 use Rattle.text.specs.Pictures.{is_picture_code}
 use Rattle.text.specs.Kinds.{is_start_kind}
-use Rattle.text.specs.StartBlock.{has_mode, is_clock_byte, is_start_block, header_of, blank_header}
-use Rattle.text_start_block.specs.declared.read.StartRead.{StartRead}
-
--- what a block that breaks a rule gives: all 0. Notice 49, 4(1)(1-1)(c)(イ) and (d)(イ)
-abbrev pub broken_start : StartRead
-broken_start = record { kept = false; header = blank_header }
+use Rattle.text.specs.StartBlock.{has_mode, is_clock_byte, is_start_block, header_of}
+use Rattle.text.specs.declared.header.Header.{Header}
 
 -- a start block's header, where it keeps every rule. Notice 49, 4(1)(1-1)(c)(イ) and (d)(イ)
-unfoldable pub start_read : List ℕ → StartRead
-start_read block = cond (is_start_block block) (record { kept = true; header = header_of block }) broken_start
+unfoldable pub start_read : List ℕ → Option Header
+start_read block = cond (is_start_block block) (Some (header_of block)) None
 
 -- the rules of a start block's bytes 0 to 7. Notice 49, 4(1)(1-1)(c)(イ) and (d)(イ)
 unfoldable pub start_front : List ℕ → Bool

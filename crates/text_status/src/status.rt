@@ -1,9 +1,10 @@
 // Status bytes, mode bytes and the clock.
-ghost use Rattle.std.specs.Prelude.{◌≡◌, max};
+ghost use Rattle.std.specs.Prelude.{◌≡◌};
 ghost use Rattle.text.specs.StartBlock.{no_echo_of, mode_of, mode_byte, clock_of};
 ghost use Rattle.text.specs.EndBlock.{highest};
 
 // NO ECHO, bit 3 of status 1; the other bits have no meaning. Notice 49, 4(1)(1-1)(d)(イ)
+#[tactic(auto, unfolding(text::specs::StartBlock::no_echo_of, general_laws::specs::Bytes::bit))]
 pub fn no_echo_of(status1: u8) -> bool
     ensures { result ≡ no_echo_of status1 }
 {
@@ -23,25 +24,16 @@ pub fn mode_of(b: u8) -> u8
 }
 
 // The byte that says a mode; 0 for a number that is no mode. Notice 49, 4(1)(1-1)(d)(イ)
+#[tactic(auto, unfolding(text::specs::StartBlock::mode_byte))]
 pub fn mode_byte(m: u8) -> u8
     ensures { result ≡ mode_byte m }
 {
-    if m == 1 {
-        return 0x04;
+    match m {
+        1 => 0x04,
+        2 => 0x10,
+        3 => 0x40,
+        _ => 0x00,
     }
-    if m == 2 {
-        return 0x10;
-    }
-    if m == 3 {
-        return 0x40;
-    }
-    0
-}
-
-fn larger(a: u8, b: u8) -> u8
-    ensures { result ≡ max a b }
-{
-    if a < b { b } else { a }
 }
 
 // The highest of the modes: what status 2 says. Notice 49, 4(1)(1-1)(d)(イ)
@@ -49,15 +41,14 @@ pub fn highest_mode(modes: [u8; 8]) -> u8
     ensures { result ≡ highest modes }
 {
     let mut high = 0;
-    let mut i = 0;
-    while i < 8 {
-        high = larger(high, modes[i]);
-        i += 1;
+    for m in &modes {
+        high = high.max(*m);
     }
     high
 }
 
 // The clock that two bytes give, high part first. Notice 49, 4(1)(1-1)(d)(イ)
+#[tactic(auto, unfolding(text::specs::StartBlock::clock_of))]
 pub fn clock_of(high: u8, low: u8) -> u16
     ensures { result ≡ clock_of high low }
 {

@@ -11,79 +11,67 @@
 #![tactic(auto)]
 
 mod figures;
-mod lines;
 
-use crate::figures::{Figures, after_byte, before_any};
-use crate::lines::{answer_line, last_line};
+use crate::figures::Figures;
+use program_streams::reading::{Listener, feed_all};
 use receiver_byte_call::calls::byte_call;
 use receiver_marks::marks::all_marks;
 use receiver_state::answer::number_of;
 use receiver_state::state::{State, fresh};
 use std::io;
-use std::io::{Read, Write};
+use std::io::Write;
 
-// The receiver and the figures after some bytes
-#[derive(Clone, Copy)]
-struct Fed {
+// The receiver and the figures after some bytes, and where their lines go
+#[derive(Drop)]
+struct Shown<W> {
+    out: W,
     state: State,
+    grid: [u8; 20000],
     figures: Figures,
 }
 
-fn at_start() -> Fed {
-    let state = fresh(all_marks());
-    Fed {
-        state,
-        figures: before_any(state),
-    }
-}
-
-// Gives one byte to the receiver, and prints its line. No call is refused: the grid has 20,000
-// bytes, and the state is fresh or a call's.
-fn feed_byte<W: Write>(out: &mut W, fed: Fed, grid: &mut [u8], b: u8) -> io::Result<Fed> {
-    let before = fed.figures;
-    let held = fed.state;
-    let result = byte_call(held, grid, b);
-    let state = result.state;
-    let answer = result.answer;
-    let figures = after_byte(before, state);
-    answer_line(out, number_of(answer), before.left, figures)?;
-    Ok(Fed { state, figures })
-}
-
-fn feed<W: Write>(out: &mut W, fed: Fed, grid: &mut [u8], bytes: &[u8]) -> io::Result<Fed> {
-    let mut now = fed;
-    let mut i = 0;
-    while i < bytes.len() {
-        now = feed_byte(out, now, grid, bytes[i])?;
-        i += 1;
-    }
-    Ok(now)
-}
-
-// Reads as much as there is, gives it to the receiver, and so on to the input's end. A proved loop
-// has to end, and nothing says that the input does: the loop has more turns than any run uses up
-fn feed_all<R: Read, W: Write>(
-    input: &mut R,
-    out: &mut W,
-    grid: &mut [u8],
-    buffer: &mut [u8],
-) -> io::Result<Fed> {
-    let mut fed = at_start();
-    for _ in 0..u64::MAX {
-        let n = input.read(buffer)?;
-        if n == 0 {
-            break;
+impl<W: Write> Shown<W> {
+    // The line of a byte, by its answer and the bytes left before it; none for answer 0
+    fn answer_line(&mut self, answer: u8, before: u16) -> io::Result<()> {
+        if answer == 0 {
+            return Ok(());
         }
-        fed = feed(out, fed, grid, &buffer[..n])?;
+        let Figures { total, left, sum } = self.figures;
+        writeln!(self.out, "{total} {answer} {before} {left} {sum}")
     }
-    Ok(fed)
+
+    // When the input has ended
+    fn last_line(&mut self) -> io::Result<()> {
+        let Figures { total, left, sum } = self.figures;
+        writeln!(self.out, "{total} {left} {sum}")?;
+        self.out.flush()
+    }
+}
+
+impl<W: Write> Listener for Shown<W> {
+    // Gives each byte to the receiver, and prints its line. No call is refused: the state is fresh or
+    // a call's
+    fn take(&mut self, bytes: &[u8]) -> io::Result<bool> {
+        for b in bytes {
+            let before = self.figures;
+            let result = byte_call(self.state, &mut self.grid, *b);
+            self.state = result.state;
+            self.figures = before.after_byte(result.state);
+            self.answer_line(number_of(result.answer), before.left)?;
+        }
+        Ok(true)
+    }
 }
 
 fn main(rt: HostRuntime) -> io::Result<()> {
-    let mut grid = [0u8; 20000];
     let mut buffer = [0u8; 65536];
-    let mut out = rt.stdout();
-    let fed = feed_all(&mut rt.stdin(), &mut out, &mut grid, &mut buffer)?;
-    last_line(&mut out, fed.figures)?;
-    out.flush()
+    let state = fresh(all_marks());
+    let mut shown = Shown {
+        out: rt.stdout(),
+        state,
+        grid: [0; 20000],
+        figures: Figures::before_any(state),
+    };
+    feed_all(&mut rt.stdin(), &mut buffer, &mut shown)?;
+    shown.last_line()
 }

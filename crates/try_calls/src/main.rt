@@ -23,66 +23,47 @@
 #![tactic(auto)]
 
 mod digits;
-mod held;
-mod print;
-mod refusals;
+mod refused_calls;
 mod runs;
 
-ghost use Rattle.std.specs.Prelude.{◌+◌, ◌≤◌, length};
-
+use crate::runs::Shown;
 use program_streams::read_full;
 use receiver_marks::marks::all_marks;
-use receiver_state::state::{State, fresh};
+use receiver_state::state::fresh;
 use std::io;
 use std::io::Write;
 
-fn two_bytes(high: u8, low: u8) -> usize {
-    high as usize * 256 + low as usize
+fn record<W: Write>(shown: &mut Shown<W>, bytes: &[u8]) -> io::Result<()> {
+    writeln!(shown.out, "part {}", bytes.len())?;
+    shown.by_slices(bytes)?;
+    shown.by_bytes(bytes)
 }
 
-// The length that two bytes at `at` say, or what is left after them where that is less
-fn length_at(input: &[u8], at: usize) -> usize
-    requires { at + 2 ≤ length input.now }
-    ensures { at + 2 + result ≤ length input.now }
-{
-    let said = two_bytes(input[at], input[at + 1]);
-    let left = input.len() - at - 2;
-    if left < said {
-        return left;
+// The length that two bytes say, or what is left after them where that is less
+fn records<W: Write>(shown: &mut Shown<W>, input: &[u8]) -> io::Result<()> {
+    let mut rest = input;
+    // Stays a while: how long a record is stands in its own first bytes
+    while let [high, low, behind @ ..] = rest {
+        let said = u16::from_be_bytes([*high, *low]) as usize;
+        let (bytes, next) = behind.split_at_checked(said).unwrap_or((behind, &[]));
+        record(shown, bytes)?;
+        rest = next;
     }
-    said
-}
-
-fn part<W: Write>(out: &mut W, state: State, grid: &mut [u8], record: &[u8]) -> io::Result<State> {
-    print::word(out, b"part")?;
-    print::number(out, record.len() as u64)?;
-    print::end_line(out)?;
-    let s = runs::by_slices(out, state, grid, record)?;
-    runs::by_bytes(out, s, grid, record)
-}
-
-fn parts<W: Write>(out: &mut W, grid: &mut [u8], input: &[u8]) -> io::Result<State> {
-    let mut s = fresh(all_marks());
-    let mut at = 0;
-    while at + 2 <= input.len() {
-        let start = at + 2;
-        let end = start + length_at(input, at);
-        s = part(out, s, grid, &input[start..end])?;
-        at = end;
-    }
-    Ok(s)
+    Ok(())
 }
 
 fn main(rt: HostRuntime) -> io::Result<()> {
     let mut buffer = [0u8; 4096];
     let n = read_full(&mut rt.stdin(), &mut buffer)?;
-    let mut out = rt.stdout();
-    let mut grid = [0u8; 20000];
-    let last = parts(&mut out, &mut grid, &buffer[..n])?;
-    refusals::states(&mut out, last, &mut grid)?;
-    refusals::marks(&mut out, last, &mut grid)?;
-    digits::states(&mut out, last, &mut grid)?;
-    let mut others = [7u8; 20001];
-    refusals::lengths(&mut out, last, &mut others)?;
-    out.flush()
+    let mut shown = Shown {
+        out: rt.stdout(),
+        state: fresh(all_marks()),
+        grid: [0; 20000],
+    };
+    records(&mut shown, &buffer[..n])?;
+    refused_calls::states(&mut shown)?;
+    refused_calls::marks(&mut shown)?;
+    digits::states(&mut shown)?;
+    refused_calls::lengths(&mut shown)?;
+    shown.out.flush()
 }

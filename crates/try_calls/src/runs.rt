@@ -1,165 +1,119 @@
 // A record through the slice call, cut at each place of an opening, and through the byte call.
-ghost use Rattle.std.specs.Prelude.{◌≤◌, length};
+ghost use Rattle.std.specs.Prelude.{◌≤◌};
 
-use crate::held::numbers;
-use crate::print::{byte, end_line, number, signed, twelve, word};
+use program_parts::lines::contents;
+use program_streams::printing::{end_line, list, spaced, word};
 use receiver_byte_call::calls::byte_call;
 use receiver_slice_call::calls::slice_call;
-use receiver_state::answer::number_of;
+use receiver_state::answer::{Answer, number_of};
 use receiver_state::state::State;
 use std::io;
 use std::io::Write;
 use text_kinds::table::is_start_kind;
 
-// Ends the line of an answer, and says what is held after answer 3 and after a drop
-fn after<W: Write>(out: &mut W, taken: usize, answer: u8, s: State, grid: &[u8]) -> io::Result<()> {
-    number(out, taken as u64)?;
-    byte(out, answer)?;
-    end_line(out)?;
-    if answer == 3 {
-        word(out, b"held")?;
-        numbers(out, s, grid)?;
-    }
-    if answer > 10 {
-        word(out, b"dropped")?;
-        numbers(out, s, grid)?;
-    }
-    Ok(())
+// What the last call returned and left, and where the lines go
+#[derive(Drop)]
+pub struct Shown<W> {
+    pub out: W,
+    pub state: State,
+    pub grid: [u8; 20000],
 }
 
-fn cut_line<W: Write>(
-    out: &mut W,
-    k: usize,
-    taken: usize,
-    answer: u8,
-    s: State,
-    grid: &[u8],
-) -> io::Result<()> {
-    if answer == 0 {
-        return Ok(());
+impl<W: Write> Shown<W> {
+    fn contents(&mut self) -> io::Result<()> {
+        contents(&mut self.out, self.state, &self.grid)
     }
-    word(out, b"cut")?;
-    number(out, k as u64)?;
-    after(out, taken, answer, s, grid)
-}
 
-// At places 8 to 25 of a start text, the header's minute and the digits of the time that wait in the
-// state (Request 111)
-fn waiting_line<W: Write>(out: &mut W, taken: usize, s: State) -> io::Result<()> {
-    let frame = s.frame;
-    let header = s.header;
-    let digits = s.digits;
-    if !is_start_kind(frame.kind) | (frame.place < 8) | (25 < frame.place) {
-        return Ok(());
-    }
-    word(out, b"waiting")?;
-    number(out, taken as u64)?;
-    number(out, frame.place as u64)?;
-    signed(out, header.minute)?;
-    twelve(out, digits)?;
-    end_line(out)
-}
-
-fn byte_line<W: Write>(
-    out: &mut W,
-    taken: usize,
-    answer: u8,
-    s: State,
-    grid: &[u8],
-) -> io::Result<()> {
-    if answer == 0 {
-        return waiting_line(out, taken, s);
-    }
-    word(out, b"byte")?;
-    after(out, taken, answer, s, grid)
-}
-
-// A number that is too large counts as 0
-fn at_most_or_0(n: usize, most: usize) -> usize
-    ensures { result ≤ most }
-{
-    if most < n {
-        return 0;
-    }
-    n
-}
-
-// Gives the bytes from `from` to `to`, by as many calls as that takes
-fn give<W: Write>(
-    out: &mut W,
-    state: State,
-    grid: &mut [u8],
-    bytes: &[u8],
-    from: usize,
-    to: usize,
-    k: usize,
-) -> io::Result<State>
-    requires { (from ≤ to) × (to ≤ length bytes.now) }
-{
-    let mut s = state;
-    let mut at = from;
-    while at < to {
-        let result = slice_call(s, grid, &bytes[at..to]);
-        let count = result.count;
-        if count == 0 {
-            return Ok(s);
+    // Ends the line of an answer, and says what is held after answer 3 and after a drop
+    fn after(&mut self, taken: usize, answer: Answer) -> io::Result<()> {
+        let number = number_of(answer);
+        writeln!(self.out, " {taken} {number}")?;
+        match answer {
+            Answer::Complete(_) => {
+                word(&mut self.out, b"held")?;
+                self.contents()
+            }
+            Answer::Dropped(_) => {
+                word(&mut self.out, b"dropped")?;
+                self.contents()
+            }
+            _ => Ok(()),
         }
-        at += count;
-        let next = result.state;
-        s = next;
-        let answer = result.answer;
-        cut_line(out, k, at, number_of(answer), s, grid)?;
     }
-    Ok(s)
-}
 
-// Two slices. The second text begins after the start text, which has 40 bytes
-fn cut_at<W: Write>(
-    out: &mut W,
-    state: State,
-    grid: &mut [u8],
-    bytes: &[u8],
-    k: usize,
-) -> io::Result<State>
-    requires { k ≤ 6 }
-{
-    let n = bytes.len();
-    let cut = at_most_or_0(40 + k, n);
-    let s = give(out, state, grid, bytes, 0, cut, k)?;
-    give(out, s, grid, bytes, cut, n, k)
-}
-
-// Cuts from before the opening's first byte to after its last
-pub fn by_slices<W: Write>(
-    out: &mut W,
-    state: State,
-    grid: &mut [u8],
-    bytes: &[u8],
-) -> io::Result<State> {
-    let mut s = state;
-    let mut k = 0;
-    while k <= 6 {
-        s = cut_at(out, s, grid, bytes, k)?;
-        k += 1;
+    fn cut_line(&mut self, k: usize, taken: usize, answer: Answer) -> io::Result<()> {
+        if answer == Answer::Quiet {
+            return Ok(());
+        }
+        write!(self.out, "cut {k}")?;
+        self.after(taken, answer)
     }
-    Ok(s)
-}
 
-pub fn by_bytes<W: Write>(
-    out: &mut W,
-    state: State,
-    grid: &mut [u8],
-    bytes: &[u8],
-) -> io::Result<State> {
-    let mut s = state;
-    let mut i = 0;
-    while i < bytes.len() {
-        let result = byte_call(s, grid, bytes[i]);
-        i += 1;
-        let next = result.state;
-        s = next;
-        let answer = result.answer;
-        byte_line(out, i, number_of(answer), s, grid)?;
+    // At places 8 to 25 of a start text, the header's minute and the digits of the time that wait in
+    // the state (Request 111)
+    fn waiting_line(&mut self, taken: usize) -> io::Result<()> {
+        let s = self.state;
+        let place = s.frame.place;
+        if !is_start_kind(s.frame.kind) || !matches!(place, 8..=25) {
+            return Ok(());
+        }
+        write!(self.out, "waiting {taken} {place}")?;
+        spaced(&mut self.out, s.header.minute)?;
+        list(&mut self.out, &s.digits)?;
+        end_line(&mut self.out)
     }
-    Ok(s)
+
+    fn byte_line(&mut self, taken: usize, answer: Answer) -> io::Result<()> {
+        if answer == Answer::Quiet {
+            return self.waiting_line(taken);
+        }
+        word(&mut self.out, b"byte")?;
+        self.after(taken, answer)
+    }
+
+    // Gives bytes of a record, behind `before` others, by as many calls as that takes
+    fn give(&mut self, k: usize, before: usize, bytes: &[u8]) -> io::Result<()> {
+        let mut taken = before;
+        let mut rest = bytes;
+        // Stays a while: how many bytes are taken at a time is the call's to say
+        while !rest.is_empty() {
+            let result = slice_call(self.state, &mut self.grid, rest);
+            if result.count == 0 {
+                break;
+            }
+            self.state = result.state;
+            taken = taken.saturating_add(result.count);
+            let (_, behind) = rest.split_at(result.count);
+            rest = behind;
+            self.cut_line(k, taken, result.answer)?;
+        }
+        Ok(())
+    }
+
+    // Two slices. The second text begins after the start text, which has 40 bytes; a record with no
+    // such place is not cut
+    fn cut_at(&mut self, k: usize, bytes: &[u8]) -> io::Result<()>
+        requires { k ≤ 6 }
+    {
+        let (front, back) = bytes.split_at_checked(40 + k).unwrap_or((&[], bytes));
+        self.give(k, 0, front)?;
+        self.give(k, front.len(), back)
+    }
+
+    // Cuts from before the opening's first byte to after its last
+    pub fn by_slices(&mut self, bytes: &[u8]) -> io::Result<()> {
+        for k in 0..=6 {
+            self.cut_at(k, bytes)?;
+        }
+        Ok(())
+    }
+
+    pub fn by_bytes(&mut self, bytes: &[u8]) -> io::Result<()> {
+        for (i, b) in bytes.iter().enumerate() {
+            let result = byte_call(self.state, &mut self.grid, *b);
+            self.state = result.state;
+            self.byte_line(i + 1, result.answer)?;
+        }
+        Ok(())
+    }
 }

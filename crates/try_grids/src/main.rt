@@ -6,79 +6,50 @@
 #![tactic(auto)]
 
 use program_streams::read_full;
+use refusals::refusal::Refusal;
 use service_levels::meshes::meshes_from;
-use service_levels::result::MeshResult;
-use service_overlay::grids::{OverlayResult, overlay};
+use service_overlay::grids::overlay;
 use std::io;
 use std::io::{Read, Write};
+use std::mem::swap;
 
-fn number_of(found: MeshResult) -> u64 {
+// A number, or the refusal's in its place
+fn number_of(found: Result<u32, Refusal>) -> u32 {
     match found {
-        MeshResult::Value(n) => n as u64,
-        MeshResult::Refused(row) => row as u64,
+        Ok(n) => n,
+        Err(refusal) => u32::from(u8::from(refusal)),
     }
 }
 
-fn count<W: Write>(out: &mut W, grid: &[u8], level: u8) -> io::Result<()> {
-    let n = number_of(meshes_from(grid, level));
-    write!(out, "{n}")
-}
-
-// The overlay of a grid and those before it; says whether it stands in `after`
-fn lay<W: Write>(out: &mut W, grid: &[u8], before: &[u8], after: &mut [u8]) -> io::Result<bool> {
-    let laid = overlay(grid, before, after);
-    match laid {
-        OverlayResult::Done => {
-            count(out, after, 1)?;
-            Ok(true)
-        }
-        OverlayResult::Refused(row) => {
-            write!(out, "{row}")?;
-            Ok(false)
-        }
-    }
-}
-
-// One grid's line; says whether the overlay now stands in `after`
+// One grid's line; says whether the overlay of the grid and those before it now stands in `after`
 fn total<W: Write>(out: &mut W, grid: &[u8], before: &[u8], after: &mut [u8]) -> io::Result<bool> {
-    count(out, grid, 1)?;
-    out.write_all(b" ")?;
-    count(out, grid, 5)?;
-    out.write_all(b" ")?;
-    count(out, grid, 10)?;
-    out.write_all(b" ")?;
-    let laid = lay(out, grid, before, after)?;
-    out.write_all(b"\n")?;
-    Ok(laid)
+    let one = number_of(meshes_from(grid, 1));
+    let five = number_of(meshes_from(grid, 5));
+    let ten = number_of(meshes_from(grid, 10));
+    let laid = overlay(grid, before, after);
+    let all = match laid {
+        Ok(()) => number_of(meshes_from(after, 1)),
+        Err(refusal) => number_of(Err(refusal)),
+    };
+    writeln!(out, "{one} {five} {ten} {all}")?;
+    Ok(laid.is_ok())
 }
 
-// Of two grids one holds the overlay, and the other takes the next; says whether `two` now holds it
-fn turn<W: Write>(
-    out: &mut W,
-    grid: &[u8],
-    one: &mut [u8],
-    two: &mut [u8],
-    in_two: bool,
-) -> io::Result<bool> {
-    if in_two {
-        let in_one = total(out, grid, two, one)?;
-        return Ok(!in_one);
-    }
-    total(out, grid, one, two)
-}
-
-// A proved loop has to end, and nothing says that the input does: the loop has more turns than any
+// Of two grids one holds the overlay, and the other takes the next.
+// Stays a `for` with an end: a proved loop has to end, and nothing says that the input does. One that
+// need not (`rt.forever()`) takes `Wait`, which no function here does; this one has more turns than any
 // run uses up
 fn grids<R: Read, W: Write>(input: &mut R, out: &mut W) -> io::Result<()> {
     let mut grid = [0u8; 20000];
-    let mut one = [0u8; 20000];
-    let mut two = [0u8; 20000];
-    let mut in_two = false;
+    let mut laid = [0u8; 20000];
+    let mut next = [0u8; 20000];
     for _ in 0..u64::MAX {
         if read_full(input, &mut grid)? != 20000 {
             break;
         }
-        in_two = turn(out, &grid, &mut one, &mut two, in_two)?;
+        if total(out, &grid, &laid, &mut next)? {
+            swap(&mut laid, &mut next);
+        }
     }
     Ok(())
 }

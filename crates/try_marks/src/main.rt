@@ -21,55 +21,36 @@
 //                          byte calls' last state
 #![tactic(auto)]
 
-mod held;
-mod out;
 mod runs;
 
-ghost use Rattle.std.specs.Prelude.{◌+◌, ◌≤◌, length};
-
-use crate::out::{spaced, word};
 use crate::runs::{by_bytes, by_slices};
 use program_streams::read_full;
 use receiver_state::state::{State, count_marks, fresh};
 use std::io;
 use std::io::Write;
 
-fn four_bytes(first: u8, second: u8, third: u8, fourth: u8) -> u32 {
-    let high = first as u32 * 256 + second as u32;
-    let low = third as u32 * 256 + fourth as u32;
-    high * 65536 + low
-}
-
-// The number that four bytes from `at` on say
-fn number_at(input: &[u8], at: usize) -> u32
-    requires { at + 4 ≤ length input.now }
-{
-    four_bytes(input[at], input[at + 1], input[at + 2], input[at + 3])
-}
-
 // What fresh makes of the number, which is no mark at all where one beyond the twentieth is set, and
 // the number itself in a state, where only the twenty are counted
 fn marks_line<W: Write>(out: &mut W, number: u32) -> io::Result<()> {
-    let mut state = fresh(number);
-    word(out, b"marks")?;
-    spaced(out, number as u64)?;
-    spaced(out, count_marks(state) as u64)?;
-    state.marks = number;
-    spaced(out, count_marks(state) as u64)?;
-    word(out, b"\n")
+    let state = fresh(number);
+    let set = count_marks(state);
+    let raw = count_marks(State {
+        marks: number,
+        ..state
+    });
+    writeln!(out, "marks {number} {set} {raw}")
 }
 
-// Marks of a state, and how many are counted
-fn marks_and_count<W: Write>(out: &mut W, state: State) -> io::Result<()> {
-    spaced(out, state.marks as u64)?;
-    spaced(out, count_marks(state) as u64)
-}
-
+// Marks of a state, and how many are counted, of the slice calls' and of the byte calls'
 fn end_line<W: Write>(out: &mut W, sliced: State, single: State) -> io::Result<()> {
-    word(out, b"end")?;
-    marks_and_count(out, sliced)?;
-    marks_and_count(out, single)?;
-    word(out, b"\n")
+    writeln!(
+        out,
+        "end {} {} {} {}",
+        sliced.marks,
+        count_marks(sliced),
+        single.marks,
+        count_marks(single),
+    )
 }
 
 // All lines of one number
@@ -82,19 +63,14 @@ fn of_number<W: Write>(out: &mut W, number: u32, stream: &[u8]) -> io::Result<()
 
 // All lines of the input
 fn of_input<W: Write>(out: &mut W, input: &[u8]) -> io::Result<()> {
-    if input.len() == 0 {
+    let [count, behind @ ..] = input else {
         return Ok(());
-    }
-    let count = input[0] as usize;
-    let start = 1 + 4 * count;
-    if input.len() < start {
+    };
+    let Some((numbers, stream)) = behind.split_at_checked(4 * *count as usize) else {
         return Ok(());
-    }
-    let mut i = 0;
-    while i < count {
-        let number = number_at(input, 1 + 4 * i);
-        of_number(out, number, &input[start..])?;
-        i += 1;
+    };
+    for number in numbers.as_chunks().0 {
+        of_number(out, u32::from_be_bytes(*number), stream)?;
     }
     out.flush()
 }

@@ -33,7 +33,7 @@ mod overlays;
 mod parts;
 mod payloads;
 mod print;
-mod refusals;
+mod refused_grids;
 mod samples;
 mod sums;
 
@@ -44,7 +44,7 @@ fn main(rt: HostRuntime) -> io::Result<()> {
     let mut out = rt.stdout();
     levels::lines(&mut out)?;
     levels::dry_lines(&mut out)?;
-    refusals::lines(&mut out)?;
+    refused_grids::lines(&mut out)?;
     overlays::lines(&mut out)?;
     clocks::lines(&mut out)?;
     payloads::lines(&mut out)?;

@@ -1,10 +1,12 @@
 // Overlays of the two sample grids.
 ghost use Rattle.std.specs.Prelude.{◌<◌, ◌≤◌};
 
-use crate::print::{end_line, number, refused, word};
-use crate::samples::fill_grid;
-use crate::sums::{about, adler};
-use service_overlay::grids::{OverlayResult, overlay};
+use crate::print::refused;
+use crate::samples::{fill_by_place, in_first, in_second};
+use crate::sums::about;
+use program_streams::printing::{end_line, spaced, word};
+use program_streams::sums::adler;
+use service_overlay::grids::overlay;
 use std::io;
 use std::io::Write;
 
@@ -12,26 +14,15 @@ use std::io::Write;
 // is not read
 const UNTOUCHED: u8 = 0xFF;
 
-fn prepare(third: &mut [u8]) {
-    let mut i = 0;
-    while i < third.len() {
-        third[i] = UNTOUCHED;
-        i += 1;
-    }
-}
-
 fn line<W: Write>(out: &mut W, first: &[u8], second: &[u8], third: &mut [u8]) -> io::Result<()> {
-    prepare(third);
-    word(out, b"overlay")?;
-    number(out, first.len() as u64)?;
-    number(out, second.len() as u64)?;
-    number(out, third.len() as u64)?;
-    let result = overlay(first, second, third);
-    match result {
-        OverlayResult::Done => word(out, b" laid")?,
-        OverlayResult::Refused(row) => refused(out, row)?,
+    third.fill(UNTOUCHED);
+    let (a, b, c) = (first.len(), second.len(), third.len());
+    write!(out, "overlay {a} {b} {c}")?;
+    match overlay(first, second, third) {
+        Ok(()) => word(out, b" laid")?,
+        Err(refusal) => refused(out, refusal)?,
     }
-    number(out, adler(third))?;
+    spaced(out, adler(third))?;
     end_line(out)
 }
 
@@ -55,9 +46,9 @@ fn pairs<W: Write>(
 
 fn shown<W: Write>(out: &mut W) -> io::Result<()> {
     let mut first = [0u8; 20000];
-    fill_grid(true, &mut first);
+    fill_by_place(&mut first, in_first);
     let mut second = [0u8; 20000];
-    fill_grid(false, &mut second);
+    fill_by_place(&mut second, in_second);
     let zeros = [0u8; 20000];
     let mut third = [0u8; 20000];
     pairs(out, &first, &second, &zeros, &mut third)
@@ -76,16 +67,17 @@ fn altered<W: Write>(
     requires { (a ≤ 20001) × (b ≤ 20001) × (c ≤ 20001) × (place < 20001) }
 {
     let mut first = [0u8; 20001];
-    fill_grid(true, &mut first);
+    fill_by_place(&mut first, in_first);
     first[place] = one;
     let mut second = [0u8; 20001];
-    fill_grid(false, &mut second);
+    fill_by_place(&mut second, in_second);
     second[place] = other;
     let mut third = [0u8; 20001];
     line(out, &first[..a], &second[..b], &mut third[..c])
 }
 
-// Row 42, for each of the three
+// Row 42, for each of the three. Stays calls, as below: a table would have a row for each of 25 lines,
+// and would be longer
 fn length<W: Write>(out: &mut W, n: usize) -> io::Result<()>
     requires { n ≤ 20001 }
 {

@@ -1,9 +1,10 @@
 // Sample parts, made with the writer.
-ghost use Rattle.std.specs.Prelude.{◌≤◌, length};
+ghost use Rattle.std.specs.Prelude.{◌<◌, ◌≤◌, IfSome, length};
 
 use crate::samples::fill_payload;
 use text::header::WriterHeader;
-use writer::part::{WriteResult, write_part};
+use text_lengths::part::payload_length;
+use writer::part::write_part;
 
 const MODES: [u8; 8] = [2, 1, 3, 0, 0, 0, 0, 0];
 
@@ -17,38 +18,16 @@ fn header() -> WriterHeader {
     }
 }
 
-fn payload_length(part: u8) -> usize
-    ensures { result ≤ 20000 }
-{
-    if part == 1 {
-        return 20000;
-    }
-    if part == 2 {
-        return 400;
-    }
-    100
-}
-
-// A number that is too large counts as 0
-fn within(n: usize, most: usize) -> usize
-    ensures { result ≤ most }
-{
-    if most < n {
-        return 0;
-    }
-    n
-}
-
-// Makes the part at the front of the output: how many bytes it has
-pub fn make(part: u8, echoes: bool, output: &mut [u8]) -> usize
-    ensures { result ≤ length output.new }
+// Makes the part at the front of the output: how many bytes it has, none where the writer
+// refuses
+pub fn make(part: u8, echoes: bool, output: &mut [u8]) -> Option<usize>
+    ensures { IfSome result (λ n. (0 < n) × (n ≤ length output.new)) }
 {
     let mut payload = [0u8; 20000];
     fill_payload(part, echoes, &mut payload);
-    let size = payload_length(part);
-    let result = write_part(part, header(), MODES, &payload[..size], output);
-    match result {
-        WriteResult::Bytes(long) => within(long, output.len()),
-        WriteResult::Refused(_) => 0,
+    let size = payload_length(part).min(20000);
+    match write_part(part, header(), MODES, &payload[..size], output) {
+        Ok(long) if 0 < long && long <= output.len() => Some(long),
+        _ => None,
     }
 }

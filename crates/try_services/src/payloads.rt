@@ -2,8 +2,8 @@
 ghost use Rattle.std.specs.Prelude.{◌+◌, ◌<◌, ◌≤◌, length};
 
 use crate::parts::make;
-use crate::print::{byte, end_line, word};
 use crate::sums::{about, about_part, length_and_sum};
+use program_streams::printing::end_line;
 use service_stored_part::payload::text_payload;
 use std::io;
 use std::io::Write;
@@ -15,17 +15,14 @@ const NUMBERS: [u8; 14] = [0, 1, 2, 3, 4, 5, 6, 7, 8, 9, 10, 11, 12, 255];
 const FREE: u8 = 0x16;
 
 fn text<W: Write>(out: &mut W, stored: &[u8], k: u8) -> io::Result<()> {
-    word(out, b"text")?;
-    byte(out, k)?;
+    write!(out, "text {k}")?;
     length_and_sum(out, text_payload(stored, k))?;
     end_line(out)
 }
 
 fn all_texts<W: Write>(out: &mut W, part: &[u8]) -> io::Result<()> {
-    let mut i = 0;
-    while i < 14 {
-        text(out, part, NUMBERS[i])?;
-        i += 1;
+    for k in NUMBERS {
+        text(out, part, k)?;
     }
     Ok(())
 }
@@ -65,7 +62,7 @@ fn altered<W: Write>(out: &mut W, space: &mut [u8], n: usize) -> io::Result<()>
     requires { n + 1 < length space.old }
 {
     let middle = n / 2 + 1;
-    space[middle] = space[middle] ^ 1;
+    space[middle] ^= 1;
     damaged(out, b"altered", &space[1..n + 1])
 }
 
@@ -74,10 +71,9 @@ fn stretches<W: Write>(out: &mut W, number: u8, echoes: bool, space: &mut [u8]) 
     requires { 2 ≤ length space.old }
 {
     let end = space.len() - 1;
-    let n = make(number, echoes, &mut space[1..end]);
-    if n == 0 {
+    let Some(n) = make(number, echoes, &mut space[1..end]) else {
         return Ok(());
-    }
+    };
     whole(out, number, space, n)?;
     around(out, space, n)?;
     less(out, space, n)?;
@@ -91,8 +87,8 @@ fn part<W: Write>(out: &mut W, number: u8, echoes: bool) -> io::Result<()> {
 
 // With data, and NO ECHO, which has no data texts
 pub fn lines<W: Write>(out: &mut W) -> io::Result<()> {
-    part(out, 1, true)?;
-    part(out, 2, true)?;
-    part(out, 3, true)?;
+    for number in 1..=3 {
+        part(out, number, true)?;
+    }
     part(out, 1, false)
 }

@@ -1,40 +1,30 @@
-// Words and numbers on the output.
-ghost use Rattle.std.specs.Prelude.{◌++◌, OnOk, codes, decimal};
-ghost use Rattle.std.specs.Io.KnownBytes.{Appends};
-
+// What services answer, and the digits of a time.
+use program_streams::printing::{end_line, spaced, word};
+use refusals::refusal::Refusal;
+use std::fmt::Display;
 use std::io;
 use std::io::Write;
 
-// A word; one that does not begin its line brings the space before it
-pub fn word<W: Write>(out: &mut W, w: &[u8]) -> io::Result<()>
-    ensures { OnOk result (Appends (W.contents out.old) (W.contents out.new) w.now) }
-{
-    out.write_all(w)
-}
-
-pub fn end_line<W: Write>(out: &mut W) -> io::Result<()>
-    ensures { OnOk result (Appends (W.contents out.old) (W.contents out.new) (codes "\n")) }
-{
-    writeln!(out)
-}
-
-// A number, with a space before it
-pub fn number<W: Write>(out: &mut W, n: u64) -> io::Result<()>
-    ensures { OnOk result (Appends (W.contents out.old) (W.contents out.new) (codes " " ++ decimal n)) }
-{
-    write!(out, " {n}")
-}
-
-pub fn byte<W: Write>(out: &mut W, n: u8) -> io::Result<()>
-    ensures { OnOk result (Appends (W.contents out.old) (W.contents out.new) (codes " " ++ decimal n)) }
-{
-    number(out, n as u64)
-}
-
 // A service's refusal, by its row in 01
-pub fn refused<W: Write>(out: &mut W, row: u8) -> io::Result<()> {
+pub fn refused<W: Write>(out: &mut W, refusal: Refusal) -> io::Result<()> {
     word(out, b" refused")?;
-    byte(out, row)
+    spaced(out, u8::from(refusal))
+}
+
+// To the line's end: a word and the number that was found, or the refusal
+pub fn end_with<W: Write, N: Display + Drop>(
+    out: &mut W,
+    name: &[u8],
+    found: Result<N, Refusal>,
+) -> io::Result<()> {
+    match found {
+        Ok(n) => {
+            word(out, name)?;
+            spaced(out, n)?;
+        }
+        Err(refusal) => refused(out, refusal)?,
+    }
+    end_line(out)
 }
 
 // The digits of a time, each as a byte in hexadecimal, with a space before the first (Request 111)

@@ -1,12 +1,22 @@
 // Bytes in a row, as blocks and payloads have them.
-use crate::arguments::{byte_at, rest};
-use crate::print::list;
+use program_streams::numbers::byte_at;
+use program_streams::printing::list;
 use std::io;
 use std::io::Write;
 use text::bytes::{are_zero, put};
 use text::check::{check_byte, xor_all};
 use text::payload::are_payload_bytes;
 
+// All but the first
+fn rest(args: &[u8]) -> &[u8] {
+    match args {
+        [_, rest @ ..] => rest,
+        [] => args,
+    }
+}
+
+// Stays a match over numbers, which come from standard input: the types of the functions differ, so
+// that a table of them would be no plainer
 pub fn result(asked: u8, args: &[u8]) -> u64 {
     match asked {
         60 => xor_all(args) as u64,

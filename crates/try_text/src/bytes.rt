@@ -5,6 +5,8 @@ use text_lengths::block::{block_length, data_block_length};
 use text_lengths::part::payload_length;
 use text_status::status::{mode_byte, mode_of, no_echo_of};
 
+// Stays a match over numbers, which come from standard input: the types of the functions differ, so
+// that a table of them would be no plainer
 pub fn result(asked: u8, b: u8) -> u64 {
     match asked {
         1 => is_picture_code(b) as u64,

@@ -1,7 +1,9 @@
 // Years, months and moments. A year has two bytes, and each other number one.
-use crate::arguments::{byte_at, two_at};
+use program_streams::numbers::{byte_at, two_at};
 use text_calendar::days::{days_in, is_leap_year, is_moment};
 
+// Stays a match over numbers, which come from standard input: the types of the functions differ, so
+// that a table of them would be no plainer
 pub fn result(asked: u8, args: &[u8]) -> u64 {
     let year = two_at(args, 0) as u32;
     let month = byte_at(args, 2) as u32;

@@ -9,8 +9,6 @@
 #![tactic(auto)]
 
 mod answers;
-mod arguments;
-mod print;
 
 // What is asked, by the arguments that it takes
 mod blocks;
@@ -20,10 +18,8 @@ mod pairs;
 mod times;
 mod writer_headers;
 
-ghost use Rattle.std.specs.Prelude.{◌≡◌, length};
-
 use crate::answers::line;
-use crate::arguments::{byte_at, two_at};
+use program_streams::numbers::{byte_at, two_at};
 use program_streams::read_full;
 use std::io;
 use std::io::{Read, Write};
@@ -32,21 +28,22 @@ use std::io::{Read, Write};
 fn request<R: Read, W: Write>(
     input: &mut R,
     out: &mut W,
-    head: &[u8],
-    space: &mut [u8],
-) -> io::Result<()>
-    requires { length space.old ≡ 65536 }
-{
+    head: &[u8; 3],
+    space: &mut [u8; 65536],
+) -> io::Result<()> {
     let long = two_at(head, 1) as usize;
     let read = read_full(input, &mut space[..long])?;
     line(out, byte_at(head, 0), &space[..read])
 }
 
-// A proved loop has to end, and nothing says that the input does: the loop has more turns than any
+// Stays a `for` with an end: a proved loop has to end, and nothing says that the input does. One that
+// need not (`rt.forever()`) takes `Wait`, which no function here does; this one has more turns than any
 // run uses up
-fn requests<R: Read, W: Write>(input: &mut R, out: &mut W, space: &mut [u8]) -> io::Result<()>
-    requires { length space.old ≡ 65536 }
-{
+fn requests<R: Read, W: Write>(
+    input: &mut R,
+    out: &mut W,
+    space: &mut [u8; 65536],
+) -> io::Result<()> {
     let mut head = [0u8; 3];
     for _ in 0..u64::MAX {
         if read_full(input, &mut head)? != 3 {

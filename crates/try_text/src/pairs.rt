@@ -5,6 +5,8 @@ use text_lengths::part::{data_texts, part_length};
 use text_radars::places::{is_mode_byte, is_mode_for, radar_follows};
 use text_status::status::clock_of;
 
+// Stays a match over numbers, which come from standard input: the types of the functions differ, so
+// that a table of them would be no plainer
 pub fn result(asked: u8, a: u8, b: u8) -> u64 {
     match asked {
         20 => kind_of(a, b) as u64,

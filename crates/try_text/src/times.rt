@@ -1,22 +1,19 @@
 // The time as twelve digits and as a minute (Request 111).
-use crate::arguments::{minute_at, twelve};
-use crate::print::{list, signed};
+use program_streams::numbers::{bytes_at, minute_at};
+use program_streams::printing::{list, spaced, word};
 use std::io;
 use std::io::Write;
 use text_calendar::time::{digits_of, time_check};
-use text_calendar_spec::time::TimeCheck;
 
 // The minute that twelve digits give, or that they are no date and time
 pub fn check<W: Write>(out: &mut W, args: &[u8]) -> io::Result<()> {
-    let found = time_check(twelve(args));
-    match found {
-        TimeCheck::Minute(minute) => signed(out, minute),
-        TimeCheck::Invalid => out.write_all(b" invalid"),
+    match time_check(bytes_at(args, 0)) {
+        Some(minute) => spaced(out, minute),
+        None => word(out, b" invalid"),
     }
 }
 
 // The digits of a minute
 pub fn digits<W: Write>(out: &mut W, args: &[u8]) -> io::Result<()> {
-    let found = digits_of(minute_at(args, 0));
-    list(out, &found)
+    list(out, &digits_of(minute_at(args, 0)))
 }

@@ -2,129 +2,98 @@
 // of its own.
 ghost use Rattle.std.specs.Prelude.{◌≤◌, length, IfOk};
 
-use crate::held::part_lines;
-use crate::out::{spaced, word};
+use program_parts::lines::call_lines;
+use program_streams::reading::Listener;
 use receiver_byte_call::calls::byte_call;
+use receiver_marks::marks::all_marks;
 use receiver_slice_call::calls::slice_call;
-use receiver_state::answer::number_of;
-use receiver_state::state::State;
+use receiver_state::state::{State, fresh};
 use std::io;
 use std::io::Write;
 
-// Both states after a slice call, and how many bytes it took
-#[derive(Clone, Copy)]
-struct BothResult {
-    sliced: State,
-    single: State,
-    count: usize,
-}
-
-// Both states, how many bytes they have taken, and whether the input goes on
-#[derive(Clone, Copy)]
-pub struct FeedResult {
-    pub sliced: State,
-    pub single: State,
-    pub total: u64,
-    pub goes_on: bool,
-}
-
-// Bytes read so far; a count of 64 bits stays at its end, which no input reaches
-fn more(total: u64, count: usize) -> u64 {
-    let n = count as u64;
-    if total <= u64::MAX - n {
-        return total + n;
-    }
-    u64::MAX
-}
-
-// The line of an answer other than 0
-fn answer_line<W: Write>(out: &mut W, call: &[u8], total: u64, answer: u8) -> io::Result<()> {
-    if answer == 0 {
-        return Ok(());
-    }
-    word(out, call)?;
-    spaced(out, total)?;
-    spaced(out, answer as u64)?;
-    word(out, b"\n")
-}
-
-// The bytes one by one; gives the byte call's state
-fn by_bytes<W: Write>(
-    out: &mut W,
+// What one kind of call returned and left
+#[derive(Drop)]
+struct Held {
     state: State,
-    total: u64,
-    grid: &mut [u8],
-    bytes: &[u8],
-) -> io::Result<State> {
-    let mut s = state;
-    let mut i = 0;
-    while i < bytes.len() {
-        let result = byte_call(s, grid, bytes[i]);
-        i += 1;
-        let next = result.state;
-        s = next;
-        let answer = result.answer;
-        let n = number_of(answer);
-        answer_line(out, b"byte", more(total, i), n)?;
-        part_lines(out, answer, s, grid)?;
+    grid: [u8; 20000],
+}
+
+// Fresh, with all twenty marks
+fn at_start() -> Held {
+    Held {
+        state: fresh(all_marks()),
+        grid: [0; 20000],
     }
-    Ok(s)
 }
 
-// One slice call, after the byte call has had the bytes that it takes
-fn both<W: Write>(
-    out: &mut W,
-    states: FeedResult,
-    grid: &mut [u8],
-    other: &mut [u8],
-    bytes: &[u8],
-) -> io::Result<BothResult>
-    ensures { IfOk result (λ r. r.count ≤ length bytes.now) }
-{
-    let before = states.sliced;
-    let single = states.single;
-    let result = slice_call(before, grid, bytes);
-    let count = result.count;
-    let after = by_bytes(out, single, states.total, other, &bytes[..count])?;
-    let sliced = result.state;
-    let answer = result.answer;
-    let n = number_of(answer);
-    let total = more(states.total, count);
-    answer_line(out, b"slice", total, n)?;
-    part_lines(out, answer, sliced, grid)?;
-    Ok(BothResult {
-        sliced,
-        single: after,
-        count,
-    })
+// What each kind of call holds, how many bytes the byte call has taken, and where the lines go
+#[derive(Drop)]
+pub struct Both<W> {
+    out: W,
+    sliced: Held,
+    single: Held,
+    total: u64,
 }
 
-// All bytes, by as many calls as that takes
-pub fn feed<W: Write>(
-    out: &mut W,
-    fed: FeedResult,
-    grid: &mut [u8],
-    other: &mut [u8],
-    bytes: &[u8],
-) -> io::Result<FeedResult> {
-    let mut now = fed;
-    let mut at = 0;
-    while at < bytes.len() {
-        let result = both(out, now, grid, other, &bytes[at..])?;
-        let sliced = result.sliced;
-        let single = result.single;
-        let count = result.count;
-        at += count;
-        now = FeedResult {
-            sliced,
-            single,
-            total: more(now.total, count),
-            goes_on: 0 < count,
-        };
-        if count == 0 {
-            break;
+impl<W: Write> Both<W> {
+    pub fn new(out: W) -> Both<W> {
+        Both {
+            out,
+            sliced: at_start(),
+            single: at_start(),
+            total: 0,
         }
     }
-    out.flush()?;
-    Ok(now)
+
+    // The bytes one by one. A count of 64 bits stays at its end, which no input reaches
+    fn by_bytes(&mut self, bytes: &[u8]) -> io::Result<()> {
+        for b in bytes {
+            let result = byte_call(self.single.state, &mut self.single.grid, *b);
+            self.single.state = result.state;
+            self.total = self.total.saturating_add(1);
+            call_lines(
+                &mut self.out,
+                b"byte",
+                self.total,
+                result,
+                &self.single.grid,
+            )?;
+        }
+        Ok(())
+    }
+
+    // One slice call, after the byte call has had the bytes that it takes; how many these are
+    fn by_slice(&mut self, bytes: &[u8]) -> io::Result<usize>
+        ensures { IfOk result (λ n. n ≤ length bytes.now) }
+    {
+        let result = slice_call(self.sliced.state, &mut self.sliced.grid, bytes);
+        self.sliced.state = result.state;
+        let (taken, _) = bytes.split_at(result.count);
+        self.by_bytes(taken)?;
+        call_lines(
+            &mut self.out,
+            b"slice",
+            self.total,
+            result,
+            &self.sliced.grid,
+        )?;
+        Ok(result.count)
+    }
+}
+
+impl<W: Write> Listener for Both<W> {
+    // All bytes, by as many calls as that takes; no further where a call takes none
+    fn take(&mut self, bytes: &[u8]) -> io::Result<bool> {
+        let mut rest = bytes;
+        // Stays a while: how many bytes are taken at a time is the call's to say
+        while !rest.is_empty() {
+            let count = self.by_slice(rest)?;
+            rest = &rest[count..];
+            if count == 0 {
+                break;
+            }
+        }
+        self.out.flush()?;
+        Ok(rest.is_empty())
+    }
 }

@@ -14,17 +14,11 @@
 // Calls and lines are made by tests/try_writer.py from the model of 01.
 #![tactic(auto)]
 
-mod arguments;
 mod call;
-mod held;
-mod print;
 mod read_back;
-mod sums;
 
-ghost use Rattle.std.specs.Prelude.{◌≡◌, length};
-
-use crate::arguments::two_at;
 use crate::call::call;
+use program_streams::numbers::two_at;
 use program_streams::read_full;
 use std::io;
 use std::io::{Read, Write};
@@ -33,21 +27,22 @@ use std::io::{Read, Write};
 fn request<R: Read, W: Write>(
     input: &mut R,
     out: &mut W,
-    head: &[u8],
-    space: &mut [u8],
-) -> io::Result<()>
-    requires { length space.old ≡ 65536 }
-{
+    head: &[u8; 32],
+    space: &mut [u8; 65536],
+) -> io::Result<()> {
     let long = two_at(head, 30) as usize;
     let read = read_full(input, &mut space[..long])?;
     call(out, head, &space[..read])
 }
 
-// A proved loop has to end, and nothing says that the input does: the loop has more turns than any
+// Stays a `for` with an end: a proved loop has to end, and nothing says that the input does. One that
+// need not (`rt.forever()`) takes `Wait`, which no function here does; this one has more turns than any
 // run uses up
-fn requests<R: Read, W: Write>(input: &mut R, out: &mut W, space: &mut [u8]) -> io::Result<()>
-    requires { length space.old ≡ 65536 }
-{
+fn requests<R: Read, W: Write>(
+    input: &mut R,
+    out: &mut W,
+    space: &mut [u8; 65536],
+) -> io::Result<()> {
     let mut head = [0u8; 32];
     for _ in 0..u64::MAX {
         if read_full(input, &mut head)? != 32 {

@@ -1,21 +1,22 @@
 // What was written, through the slice call of a fresh receiver.
-use crate::held::numbers;
-use crate::print::{byte, end_line, number, word};
+use program_parts::lines::contents;
+use program_streams::printing::{end_line, spaced, word};
+use receiver_byte_call::calls::CallResult;
 use receiver_marks::marks::all_marks;
 use receiver_slice_call::calls::slice_call;
-use receiver_state::answer::number_of;
-use receiver_state::state::{State, fresh};
+use receiver_state::answer::{Answer, number_of};
+use receiver_state::state::fresh;
 use std::io;
 use std::io::Write;
 
-fn took<W: Write>(out: &mut W, count: usize, answer: u8, s: State, grid: &[u8]) -> io::Result<()> {
+fn took<W: Write>(out: &mut W, res: CallResult, grid: &[u8]) -> io::Result<()> {
     word(out, b"took")?;
-    number(out, count as u64)?;
-    byte(out, answer)?;
+    spaced(out, res.count)?;
+    spaced(out, number_of(res.answer))?;
     end_line(out)?;
-    if answer == 3 {
+    if let Answer::Complete(_) = res.answer {
         word(out, b"held")?;
-        numbers(out, s, grid)?;
+        contents(out, res.state, grid)?;
     }
     Ok(())
 }
@@ -24,18 +25,17 @@ fn took<W: Write>(out: &mut W, count: usize, answer: u8, s: State, grid: &[u8]) 
 pub fn read_back<W: Write>(out: &mut W, bytes: &[u8]) -> io::Result<()> {
     let mut grid = [0u8; 20000];
     let mut s = fresh(all_marks());
-    let mut at = 0;
-    while at < bytes.len() {
-        let result = slice_call(s, &mut grid, &bytes[at..]);
-        let count = result.count;
-        if count == 0 {
-            return Ok(());
+    let mut rest = bytes;
+    // Stays a while: how many bytes are taken at a time is the call's to say
+    while !rest.is_empty() {
+        let result = slice_call(s, &mut grid, rest);
+        if result.count == 0 {
+            break;
         }
-        at += count;
-        let next = result.state;
-        s = next;
-        let answer = result.answer;
-        took(out, count, number_of(answer), s, &grid)?;
+        s = result.state;
+        let (_, behind) = rest.split_at(result.count);
+        rest = behind;
+        took(out, result, &grid)?;
     }
     Ok(())
 }

@@ -1,6 +1,5 @@
 // Start and end blocks from byte 3 on.
-ghost use Rattle.std.specs.Prelude.{◌≡◌, true, leb, ◌≤◌};
-ghost use Rattle.general_laws.specs.Bytes.{every};
+ghost use Rattle.std.specs.Prelude.{◌≡◌, true, ◌≤◌, EachIndex, slice_index};
 ghost use Rattle.text_calendar_spec.specs.Minutes.{is_minute};
 ghost use Rattle.writer_spec.specs.Written.{time_text, start_contents, end_contents};
 
@@ -9,9 +8,10 @@ use text::header::WriterHeader;
 use text_calendar::time::digits_of;
 use text_status::status::{highest_mode, mode_byte};
 
-// The time in ASCII, `YYYY.MM.DD.hh.mm`. Notice 49, 4(1)(1-1)(c)(イ) and (d)(イ)
+// The time in ASCII, `YYYY.MM.DD.hh.mm`. Stays written out, place by place, as the definition has it: a
+// loop would have to go around the four stops. Notice 49, 4(1)(1-1)(c)(イ) and (d)(イ)
 fn time_text(digits: [u8; 12]) -> [u8; 16]
-    requires { every (λ d. leb d 9) digits ≡ true }
+    requires { EachIndex digits (λ i. slice_index digits i ≤ 9) }
     ensures { result ≡ time_text digits }
 {
     [
@@ -60,10 +60,8 @@ pub(crate) fn end_contents(modes: [u8; 8]) -> [u8; 29]
     ensures { result ≡ end_contents modes }
 {
     let mut contents = [0; 29];
-    let mut i = 0;
-    while i < 8 {
-        contents[i] = mode_byte(modes[i]);
-        i += 1;
+    for (i, mode) in modes.iter().enumerate() {
+        contents[i] = mode_byte(*mode);
     }
     contents
 }

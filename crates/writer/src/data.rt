@@ -39,18 +39,15 @@ pub(crate) fn write_datas(output: &mut [u8], part: u8, picture: u8, payload: &[u
 {
     let last = data_texts(part, false);
     let size = (data_block_length(part) - 3) as usize;
-    let mut k = 1;
-    let mut at = 40;
-    let mut from = 0;
-    while k <= last {
+    for k in 1..=last {
+        let before = (k - 1) as usize;
+        let at = 40 + before * (size + 11);
+        let from = before * size;
         write_text(
             &mut output[at..],
             picture,
             kind_of(part, k),
             &payload[from..from + size],
         );
-        at += size + 11;
-        from += size;
-        k += 1;
     }
 }

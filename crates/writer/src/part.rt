@@ -17,17 +17,11 @@ ghost use Rattle.writer.specs.Returned.{outcome_of};
 use crate::contents::{end_contents, start_contents};
 use crate::data::{is_payload, write_datas, writes_no_echo};
 use crate::one_text::write_text;
+use refusals::refusal::Refusal;
 use text::header::WriterHeader;
 use text_headers::writer_input::is_writer_input;
 use text_kinds::table::kind_of;
 use text_lengths::part::part_length;
-
-// The writer's answer: how many bytes it wrote, or a refusal, 31 to 34
-#[derive(Clone, Copy)]
-pub enum WriteResult {
-    Bytes(usize),
-    Refused(u8),
-}
 
 // Writes a part that keeps every rule at the front of the output.
 // Notice 49, 4(1)(1-1)(a), 4(1)(1-2)(a), 4(2)(a)
@@ -64,23 +58,23 @@ pub fn write_part(
     modes: [u8; 8],
     payload: &[u8],
     output: &mut [u8],
-) -> WriteResult
+) -> Result<usize, Refusal>
     ensures { outcome_of result output.new ≡ writes part header modes payload.now output.old }
 {
     if (part == 0) | (3 < part) {
-        return WriteResult::Refused(31);
+        return Err(Refusal::PartNumber);
     }
     if !is_writer_input(header, modes) {
-        return WriteResult::Refused(32);
+        return Err(Refusal::HeaderOrModes);
     }
     if !is_payload(part, payload) {
-        return WriteResult::Refused(33);
+        return Err(Refusal::Payload);
     }
     let noecho = writes_no_echo(part, payload);
     let long = part_length(part, noecho);
     if output.len() < long {
-        return WriteResult::Refused(34);
+        return Err(Refusal::OutputLength);
     }
     write_taken(part, header, modes, payload, noecho, output);
-    WriteResult::Bytes(long)
+    Ok(long)
 }

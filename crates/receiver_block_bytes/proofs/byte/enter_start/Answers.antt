@@ -1,7 +1,8 @@
 -- Each way out is a case of the definition; byte 23 has its own. Assumes nothing.
 use mathlib.Core.Path.{◌≡◌, sym, subst, ◌∙◌}
 use mathlib.Core.Logic.{◌≢◌}
-use mathlib.Core.Bool.{Bool, true, false}
+use mathlib.Core.Bool.{true, false}
+use Rattle.std.specs.Prelude.{Some, None}
 use mathlib.Core.List.{List}
 use Prim.Native.Nat.{ℕ, ◌-◌, ◌≤◌, ◌<◌}
 use native.Mathlib.Omega.{arith}
@@ -37,39 +38,39 @@ module _ (k : ℕ) (h : Header) (m ds : List ℕ) (i b : ℕ) (s : is_start_kind
       )
       at (taken_has k h i b t).2
 
-  into_header : {kept : Bool} {g : Header} {es : List ℕ} → i ≢ 23 → kept ≡ is_taken k h no_digits i b → kept ≡ true → g ≡ enter_header h no_digits i b → es ≡ enter_digits ds i b
-      → leaves kept g m es Keep ≡ entered k h m ds i b
+  into_header : {g : Header} {es : List ℕ} → i ≢ 23 → is_taken k h no_digits i b ≡ true → g ≡ enter_header h no_digits i b → es ≡ enter_digits ds i b
+      → Some (leaves g m es Keep) ≡ entered k h m ds i b
   unfolding entered enters
-  into_header n e t p q = rw (t, p, q, taken_unread k h ds i b (λ _. n), sym e ∙ t, s, header_unread h ds i b n)
+  into_header n t p q = rw (p, q, taken_unread k h ds i b (λ _. n), t, s, header_unread h ds i b n)
 
-  broken : {kept : Bool} → i ≢ 23 → kept ≡ is_taken k h no_digits i b → kept ≡ false → leaves kept h m ds Keep ≡ entered k h m ds i b
+  broken : i ≢ 23 → is_taken k h no_digits i b ≡ false → None ≡ entered k h m ds i b
   unfolding entered
-  broken n e f = rw (f, taken_unread k h ds i b (λ _. n), sym e ∙ f)
-
-pub enter_header-with_byte-requires : goal.enter_header-with_byte-requires
-enter_header-with_byte-requires c =
-    let a = c.args in
-    record {
-      le_i = start_has a.kind a.header a.modes a.digits a.i a.b c.requires (sym c.is_taken-kept.ensures ∙ c.if-kept.true);
-      i_nonzero = c.if-i-eq23.false;
-    }
-
-pub enter_digits-waiting-requires : goal.enter_digits-waiting-requires
-enter_digits-waiting-requires c =
-    let a = c.args in
-    time_has a.kind a.header a.modes a.digits a.i a.b c.requires (sym c.is_taken-kept.ensures ∙ c.if-kept.true)
-
-pub returns-then-kept : goal.returns-then-kept
-returns-then-kept c =
-    into_header _ _ _ _ _ _ c.requires c.if-i-eq23.false c.is_taken-kept.ensures c.if-kept.true
-    c.enter_header-with_byte.ensures c.enter_digits-waiting.ensures
-
-pub returns : goal.returns
-returns c =
-    broken _ _ _ _ _ _ c.requires c.if-i-eq23.false c.is_taken-kept.ensures c.if-kept.false
+  broken n f = rw (taken_unread k h ds i b (λ _. n), f)
 
 pub returns-then-i-eq23 : goal.returns-then-i-eq23
 returns-then-i-eq23 c = c.enter_time.ensures ∙ whole _ _ _ _ _ _ c.requires c.if-i-eq23.true
 
-pub is_taken-kept-requires : goal.is_taken-kept-requires
-is_taken-kept-requires c _ = c.if-i-eq23.false
+pub is_taken-requires : goal.is_taken-requires
+is_taken-requires c _ = c.if-i-eq23.false
+
+pub returns-then-not-is_taken : goal.returns-then-not-is_taken
+returns-then-not-is_taken c =
+    broken _ _ _ _ _ _ c.requires c.if-i-eq23.false (sym c.is_taken.ensures ∙ c.if-not-is_taken.true)
+
+pub enter_header-requires : goal.enter_header-requires
+enter_header-requires c =
+    let s = c.args.s in
+    record {
+      le_i = start_has s.frame.kind s.header s.modes s.digits s.frame.place c.args.b c.requires (sym c.is_taken.ensures ∙ c.if-not-is_taken.false);
+      i_nonzero = c.if-i-eq23.false;
+    }
+
+pub enter_digits-requires : goal.enter_digits-requires
+enter_digits-requires c =
+    let s = c.args.s in
+    time_has s.frame.kind s.header s.modes s.digits s.frame.place c.args.b c.requires (sym c.is_taken.ensures ∙ c.if-not-is_taken.false)
+
+pub returns : goal.returns
+returns c =
+    into_header _ _ _ _ _ _ c.requires c.if-i-eq23.false (sym c.is_taken.ensures ∙ c.if-not-is_taken.false)
+    c.enter_header.ensures c.enter_digits.ensures

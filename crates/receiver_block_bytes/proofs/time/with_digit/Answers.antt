@@ -13,13 +13,13 @@ below : (i : ℕ) → i < 16 → is_stop i ≡ false → digit_index i < 12
 unfolding is_stop is_in digit_index
 below i h s = ltb-true (digit_index i) 12 (rw s at (tabled (λ i. is_stop i || ltb (digit_index i) 12) 16 tt i h))
 
-pub bounds-next-at : goal.bounds-next-at
-bounds-next-at c =
-    rw c.digit_index-at.ensures (below c.args.i c.requires.i_bound c.requires.i_value)
+pub bounds-digits-digit_index : goal.bounds-digits-digit_index
+bounds-digits-digit_index c =
+    rw c.digit_index.ensures (below c.args.i c.requires.i_bound c.requires.i_value)
 
 pub returns : goal.returns
 unfolding digit_index
-returns c = simp c.digit_index-at.ensures
+returns c = simp c.digit_index.ensures
 
-pub digit_index-at-requires : goal.digit_index-at-requires
-digit_index-at-requires c = c.requires.i_bound
+pub digit_index-requires : goal.digit_index-requires
+digit_index-requires c = c.requires.i_bound

@@ -1,12 +1,12 @@
 -- The refusals as the definition has them; a payload byte by its law; else the decision is the step. Assumes nothing.
 use mathlib.Core.Path.{◌≡◌, refl, sym, ◌∙◌, subst}
-use mathlib.Core.Bool.{true}
+use mathlib.Core.Bool.{Bool, true}
 use mathlib.Core.List.{List, [], ◌∷◌}
 use Prim.Native.Nat.{ℕ, ◌+◌, ◌*◌, ◌-◌, ◌<◌}
 use native.Mathlib.Omega.{arith}
 use lib.ListN.{length, set}
 use borrow.Author.Rules.{rules}
-use borrow.Author.Tests.{eq-eqb, ne_eqb}
+use borrow.Author.Tests.{eq-eqb}
 use Rattle.text.specs.Part.{grid_length}
 use Rattle.receiver_spec.specs.State.{is_possible}
 use Rattle.receiver_spec.specs.Receiver.{◌⊕◌}
@@ -17,11 +17,11 @@ use Rattle.receiver_step.specs.Decide.{decide}
 use Rattle.receiver_state.specs.declared.state.State.{State}
 use Rattle.receiver_decisions.specs.declared.decision.Decision.{Decision}
 use Rattle.receiver_state.specs.declared.answer.Answer.TheVariants.{Quiet}
-use Rattle.receiver_byte_call.specs.Returned.{returned, reply_of}
+use Rattle.receiver_byte_call.specs.Returned.{returned}
 use Rattle.receiver_bytes_seen.specs.Behind.{seen_after}
 use Rattle.receiver_byte_call.specs.InPayload.{advanced_state, is_payload_here}
 use Rattle.receiver_byte_call.proofs.Decisions.{decide_facts, same_step, applied_here}
-use Rattle.receiver_byte_call.proofs.PayloadByte.{payload_byte_has, short_here, possible_here, decide_here}
+use Rattle.receiver_byte_call.proofs.PayloadByte.{PayloadByte, payload_byte_has, short_here, possible_here, decide_here}
 use Rattle.receiver_byte_call.proofs.calls.byte_call.Goals as goal
 
 -- a byte that is taken
@@ -39,7 +39,7 @@ entered :
     → seen ≡ push_seen s.seen b → t ≡ advanced_state s (s.frame.place + 1) (s.frame.check ⊕ b) seen 5
     → (returned (record { state = t; answer = Quiet; count = 1 }) (set g (2000 * (s.frame.due - 1) + (s.frame.place - 3)) b) ≡ byte_call (state_of s) g b)
     × (t.seen ≡ seen_after s.seen (b ∷ []))
-unfolding applied_to seen_after advanced_state
+unfolding seen_after advanced_state
 entered s g b h long here m e =
     let has = payload_byte_has s.frame s.marks s.digits b here in
     rw (e, m) (
@@ -48,34 +48,29 @@ entered s g b h long here m e =
       refl,
     )
 
-pub returns-then-grid-ne20000 : goal.returns-then-grid-ne20000
-unfolding returned byte_call reply_of seen_after
-returns-then-grid-ne20000 c = rw c.refused.ensures (record {
-  grid_after = simp (ne_eqb _ _ c.if-grid-ne20000.true);
-  seen_value = refl;
-})
+-- where the test of the code says so, the byte is payload, and its place is within the grid
+module _ (s : State) (b : ℕ) {r : Bool} (e : r ≡ is_payload_here s.frame s.marks s.digits b) (t : r ≡ true) where
+  payload : PayloadByte s.frame s.marks s.digits b
+  payload = payload_byte_has s.frame s.marks s.digits b (sym e ∙ t)
+
+  short : s.frame.place < 2003
+  short = short_here s.frame s.marks s.digits b payload
 
 pub overflow_sub-grid : goal.overflow_sub-grid
 overflow_sub-grid c =
-    let has = payload_byte_has c.args.state.frame c.args.state.marks c.args.state.digits c.args.b (sym c.is_payload_here.ensures ∙ c.if-is_payload_here.true) in
-    omega (arith, has.begun)
+    let has = payload c.args.state c.args.b c.is_payload_here.ensures c.if-is_payload_here.true in omega (arith, has.begun)
 
 pub overflow_sub-grid-then-is_payload_here : goal.overflow_sub-grid-then-is_payload_here
 overflow_sub-grid-then-is_payload_here c =
-    let has = payload_byte_has c.args.state.frame c.args.state.marks c.args.state.digits c.args.b (sym c.is_payload_here.ensures ∙ c.if-is_payload_here.true) in
-    omega (arith, has.past)
+    let has = payload c.args.state c.args.b c.is_payload_here.ensures c.if-is_payload_here.true in omega (arith, has.past)
 
 pub bounds-grid-f : goal.bounds-grid-f
 bounds-grid-f c =
-    let a = c.args in
-    let has = payload_byte_has a.state.frame a.state.marks a.state.digits a.b (sym c.is_payload_here.ensures ∙ c.if-is_payload_here.true) in
-    omega (arith, has.begun, has.ten, has.past, short_here a.state.frame a.state.marks a.state.digits a.b has, c.if-grid-ne20000.false)
+    let has = payload c.args.state c.args.b c.is_payload_here.ensures c.if-is_payload_here.true in
+    omega (arith, has.begun, has.ten, has.past, short c.args.state c.args.b c.is_payload_here.ensures c.if-is_payload_here.true, c.if-grid-ne20000.false)
 
 pub overflow_add-f : goal.overflow_add-f
-overflow_add-f c =
-    let a = c.args in
-    let has = payload_byte_has a.state.frame a.state.marks a.state.digits a.b (sym c.is_payload_here.ensures ∙ c.if-is_payload_here.true) in
-    omega (arith, short_here a.state.frame a.state.marks a.state.digits a.b has)
+overflow_add-f c = omega (arith, short c.args.state c.args.b c.is_payload_here.ensures c.if-is_payload_here.true)
 
 pub returns-then-is_payload_here : goal.returns-then-is_payload_here
 unfolding ◌⊕◌
@@ -83,17 +78,6 @@ returns-then-is_payload_here c =
     let a = c.args in
     let e = entered a.state a.grid.now a.b (search rules) c.if-grid-ne20000.false (sym c.is_payload_here.ensures ∙ c.if-is_payload_here.true) c.pushed.ensures c.advanced_state.ensures in
     record { grid_after = e.0; seen_value = e.1 }
-
-pub returns-then-not-is_possible : goal.returns-then-not-is_possible
-unfolding returned byte_call reply_of seen_after
-returns-then-not-is_possible c =
-    rw c.refused-then-not-is_possible.ensures (record {
-      grid_after = simp (
-        eq-eqb _ _ c.if-grid-ne20000.false,
-        sym c.is_possible.ensures ∙ c.if-not-is_possible.true,
-      );
-      seen_value = refl;
-    })
 
 pub returns : goal.returns
 unfolding seen_after

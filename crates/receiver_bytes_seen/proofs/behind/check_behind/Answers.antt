@@ -9,18 +9,16 @@ use Rattle.receiver_spec.proofs.Laws.{xor_nil}
 use Rattle.receiver_bytes_seen.proofs.ManyBytes.{check_on}
 use Rattle.receiver_bytes_seen.proofs.behind.check_behind.Goals as goal
 
-pub loop-i-init : goal.loop-i-init
-loop-i-init c = (omega arith, sym (xor_nil c.args.check))
+pub loop-b-init : goal.loop-b-init
+loop-b-init c = sym (xor_nil c.args.check)
 
-pub loop-i-preserved : goal.loop-i-preserved
+pub loop-b-preserved : goal.loop-b-preserved
 unfolding ◌⊕◌
-loop-i-preserved c =
-    let a = c.args in (
-      omega (arith, c.loop-i-test.true),
-      ap (λ x. x ⊕ get_or a.bytes.now c.loop-i.i 0) c.loop-i.invariant.1 ∙ check_on a.bytes.now c.loop-i.i a.check c.loop-i-test.true,
-    )
+loop-b-preserved c =
+    let a = c.args in
+    ap (λ x. x ⊕ get_or a.bytes.now c.loop-b.b-index 0) c.loop-b.invariant ∙ check_on a.bytes.now c.loop-b.b-index a.check (omega arith)
 
 pub returns : goal.returns
 returns c =
     let a = c.args in
-    c.loop-i.invariant.1 ∙ ap (λ t. a.check ⊕ xor_all t) (take_all c.loop-i.i a.bytes.now (omega (arith, c.loop-i-test.false)))
+    c.loop-b.invariant ∙ ap (λ t. a.check ⊕ xor_all t) (take_all c.loop-b.b-index a.bytes.now (omega arith))

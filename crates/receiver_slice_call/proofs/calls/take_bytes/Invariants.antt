@@ -1,11 +1,10 @@
 -- The bytes so far, in stretches and one by one, are all answered 0. Assumes nothing.
-use Prim.Native.Nat.{◌-◌}
 use lib.ListN.{length}
 use Rattle.receiver_stretches.proofs.Laws.{RunsTo}
 use Rattle.receiver_slice_call.proofs.calls.take_bytes.Given as goal
 
-abbrev pub invariant-loop-i : goal.invariant-loop-i
-invariant-loop-i l = RunsTo l.initial.s l.initial.grid l.initial.i l.s l.grid l.i l.bytes
+abbrev pub invariant-loop-b : goal.invariant-loop-b
+invariant-loop-b l = RunsTo l.fn.state l.fn.grid l.fn.bytes l.s l.grid l.rest
 
-abbrev pub decreases-loop-i : goal.decreases-loop-i
-decreases-loop-i l = length l.bytes - l.i
+abbrev pub decreases-loop-b : goal.decreases-loop-b
+decreases-loop-b l = length l.rest

@@ -1,108 +1,117 @@
 -- The bytes up to the block's end, or none. Assumes nothing.
-use mathlib.Core.Path.{◌≡◌, refl, sym, ap, ◌∙◌}
+use mathlib.Core.Path.{◌≡◌, sym, ap, ◌∙◌}
 use mathlib.Core.Logic.{⊎_elim}
 use mathlib.Core.Bool.{Bool, true, false, not, ◌||◌, and-false}
-use mathlib.Core.List.{List, [], ◌∷◌}
-use Prim.Native.Nat.{ℕ, zero, suc, ◌-◌, ◌≤◌, ◌<◌, min}
+use mathlib.Core.List.{List}
+use Prim.Native.Nat.{ℕ, ◌+◌, ◌-◌, ◌≤◌, min}
 use native.Mathlib.Omega.{arith}
-use lib.Dec.{eqb, leb}
+use lib.Dec.{eqb}
 use lib.ListN.{length, take}
-use lib.Seq.{take_all, length-take-le}
-use borrow.Author.Tests.{eqb-true, leb-true, leb-false, not-true, not-false}
+use lib.Seq.{length-take-le, sets}
+use borrow.Author.Tests.{eqb-true, not-true, not-false}
+use Rattle.std.proofs.lemmas.List.{take_min}
+use Rattle.general_laws.specs.Bytes.{every}
 use Rattle.text.specs.Kinds.{part_of, block_length}
+use Rattle.text.specs.DataBlock.{is_payload_byte}
 use Rattle.text.specs.Part.{grid_length}
-use Rattle.general_laws.proofs.Tests.{by_test, or_split, neither}
-use Rattle.receiver_state.specs.declared.state.Frame.{Frame}
+use Rattle.general_laws.proofs.Lists.{put_fits}
+use Rattle.general_laws.proofs.Tests.{or_split, neither}
+use Rattle.text_laws.proofs.KindTable.{block_most}
 use Rattle.receiver_state.specs.declared.state.State.{State}
 use Rattle.receiver_stretches.specs.Run.{run}
 use Rattle.receiver_stretch_payload.specs.Ahead.{is_in_payload, allowed_prefix, payload_ahead}
-use Rattle.receiver_stretch_payload.proofs.InPayload.{in_payload_has, allowed_most}
+use Rattle.receiver_stretch_payload.proofs.InPayload.{InPayload, in_payload_has, allowed_most, allowed_within, payload_passed_on}
 use Rattle.receiver_stretch_payload.proofs.ahead.payload_ahead.Goals as goal
 
--- the first bytes of the first bytes
-take_less : (n m : ℕ) (xs : List ℕ) → n ≤ m → take n (take m xs) ≡ take n xs
-take_less zero m xs l = refl
-take_less (suc n) zero xs l = absurd (omega arith)
-take_less (suc n) (suc m) [] l = refl
-take_less (suc n) (suc m) (x ∷ xs) l = ap (λ ys. x ∷ ys) (take_less n m xs (omega arith))
-
-take_min : (n : ℕ) (xs : List ℕ) → take (min n (length xs)) xs ≡ take n xs
-take_min n xs =
-    by_test (leb n (length xs)) (λ t. ap (λ k. take k xs) (low (leb-true n (length xs) t)))
-    (λ t. let l = leb-false n (length xs) t in ap (λ k. take k xs) (high l) ∙ take_all (length xs) xs (omega arith) ∙ sym (take_all n xs (omega (arith, l))))
-  where
-    low : n ≤ length xs → min n (length xs) ≡ n
-    low l = omega (arith, l)
-
-    high : length xs < n → min n (length xs) ≡ length xs
-    high l = omega (arith, l)
-
-module _ (s : State) (g bytes : List ℕ) where
+-- the test of the code, under the names of the definition
+module _ (s : State) (g bytes : List ℕ) {p : Bool} (e : p ≡ is_in_payload s.frame) where
   -- no payload is under way, or no grid is there
-  none : (not (is_in_payload s.frame) || not (eqb (length g) grid_length)) ≡ true → payload_ahead s g bytes ≡ 0
+  none : (not p || not (eqb (length g) grid_length)) ≡ true → payload_ahead s g bytes ≡ 0
   unfolding payload_ahead
   none h =
-      ⊎_elim (λ p. simp (not-true (is_in_payload s.frame) p)) (λ l. simp (not-true (eqb (length g) grid_length) l, and-false))
-      (or_split (not (is_in_payload s.frame)) (not (eqb (length g) grid_length)) h)
+      ⊎_elim (λ q. simp (sym e ∙ not-true p q)) (λ l. simp (not-true (eqb (length g) grid_length) l, and-false))
+      (or_split (not p) (not (eqb (length g) grid_length)) h)
 
-  -- n bytes are there, up to the block's end
-  some : (n : ℕ) → (not (is_in_payload s.frame) || not (eqb (length g) grid_length)) ≡ false → n ≡ min (block_length s.frame.kind - s.frame.place) (length bytes)
-      → take (allowed_prefix (part_of s.frame.kind) (take n bytes)) (take n bytes) ≡ take (payload_ahead s g bytes) bytes
-  unfolding payload_ahead
-  some n h e =
-      let (p, l) = neither (not (is_in_payload s.frame)) (not (eqb (length g) grid_length)) h in
-      let k = s.frame.kind in
-      let chunk : take n bytes ≡ take (block_length k - s.frame.place) bytes = ap (λ m. take m bytes) e ∙ take_min (block_length k - s.frame.place) bytes in
-      take_less (allowed_prefix (part_of k) (take n bytes)) n bytes (omega (arith, allowed_most (part_of k) (take n bytes), length-take-le n bytes (omega (arith, e))))
-      ∙ ap (λ xs. take (allowed_prefix (part_of k) xs) bytes) chunk
-      ∙ simp (not-false (is_in_payload s.frame) p, not-false (eqb (length g) grid_length) l)
+  module _ (h : (not p || not (eqb (length g) grid_length)) ≡ false) where
+    in_payload : InPayload s.frame
+    in_payload = in_payload_has s.frame (sym e ∙ not-false p (neither (not p) (not (eqb (length g) grid_length)) h).0)
 
--- the tests of the code, under the names of the definition
-tested : {p q v : Bool} (l : ℕ) → p ≡ q → (not p || not (eqb l grid_length)) ≡ v → (not q || not (eqb l grid_length)) ≡ v
-tested l e h = ap (λ x. not x || not (eqb l grid_length)) (sym e) ∙ h
+    long : length g ≡ 20000
+    long = eqb-true (length g) grid_length (not-false _ (neither (not p) (not (eqb (length g) grid_length)) h).1)
+
+    -- n bytes are there, up to the block's end, and `at` of them keep the rule
+    module _ {size part n at : ℕ} (k : size ≡ block_length s.frame.kind) (q : part ≡ part_of s.frame.kind) (m : n ≡ min (size - s.frame.place) (length bytes))
+        (a : at ≡ allowed_prefix part (take n bytes)) where
+      ahead_is : payload_ahead s g bytes ≡ at
+      unfolding payload_ahead
+      ahead_is =
+          let (pays, l) = neither (not p) (not (eqb (length g) grid_length)) h in
+          simp (sym e ∙ not-false p pays, not-false (eqb (length g) grid_length) l)
+          (ap (λ xs. allowed_prefix (part_of s.frame.kind) xs) (sym (take_min (block_length s.frame.kind - s.frame.place) bytes))
+          ∙ rw (a, q, m, k))
+
+      inside : at ≤ n
+      inside = omega (arith, a, m, allowed_most part (take n bytes), length-take-le n bytes (omega (arith, m)))
+
+      rule : every (is_payload_byte (part_of s.frame.kind)) (take at bytes) ≡ true
+      rule = rw (a, q) (allowed_within (part_of s.frame.kind) n bytes)
+
+      fits : (at ≤ length bytes) × (s.frame.place + at ≤ block_length s.frame.kind)
+      fits = (omega (arith, m, inside), omega (arith, m, k, inside, in_payload.high))
 
 pub returns-then-is_in_payload-grid : goal.returns-then-is_in_payload-grid
 unfolding run
 returns-then-is_in_payload-grid c =
     let a = c.args in
-    let zero = none a.s a.grid.now a.bytes.now (tested (length a.grid.now) c.is_in_payload.ensures c.if-is_in_payload-grid.true) in
-    sym (ap (λ n. run a.s a.grid.now (take n a.bytes.now) 0) zero)
-
--- what is known past the test
-module _ (f : Frame) (l : ℕ) {p : Bool} (e : p ≡ is_in_payload f) (h : (not p || not (eqb l grid_length)) ≡ false) where
-  in_payload : is_in_payload f ≡ true
-  in_payload = sym e ∙ not-false _ (neither (not p) (not (eqb l grid_length)) h).0
-
-  long : l ≡ 20000
-  long = eqb-true l grid_length (not-false _ (neither (not p) (not (eqb l grid_length)) h).1)
+    sym (ap (λ n. run a.s a.grid.now (take n a.bytes.now) 0) (none a.s a.grid.now a.bytes.now c.is_in_payload.ensures c.if-is_in_payload-grid.true))
 
 pub overflow_sub-left : goal.overflow_sub-left
 overflow_sub-left c =
     let a = c.args in
-    let f = a.s.frame in
-    omega (arith, c.block_length.ensures, (in_payload_has f (in_payload f (length a.grid.now) c.is_in_payload.ensures c.if-is_in_payload-grid.false)).high)
+    omega (arith, c.block_length.ensures, (in_payload a.s a.grid.now a.bytes.now c.is_in_payload.ensures c.if-is_in_payload-grid.false).high)
 
-pub slice_bounds-payload_passed-end : goal.slice_bounds-payload_passed-end
-slice_bounds-payload_passed-end c =
-    let bytes = c.args.bytes.now in
-    sym (length-take-le c.least-n.result bytes (omega (arith, c.least-n.ensures)))
-
-pub payload_passed-requires : goal.payload_passed-requires
-payload_passed-requires c =
+pub slice_bounds-payload-end : goal.slice_bounds-payload-end
+slice_bounds-payload-end c =
     let a = c.args in
-    let f = a.s.frame in
-    let in-payload-is = in_payload f (length a.grid.now) c.is_in_payload.ensures c.if-is_in_payload-grid.false in
-    let n = c.least-n.result in record {
-      frame_value = in-payload-is;
-      bytes_bound = omega (arith, c.least-n.ensures, c.block_length.ensures, (in_payload_has f in-payload-is).high, length-take-le n a.bytes.now (omega (arith, c.least-n.ensures)));
-      grid_len = long f (length a.grid.now) c.is_in_payload.ensures c.if-is_in_payload-grid.false;
-    }
+    let (there, within) = fits a.s a.grid.now a.bytes.now c.is_in_payload.ensures c.if-is_in_payload-grid.false c.block_length.ensures c.part_of_kind.ensures c.min.ensures
+    c.allowed_prefix-at.ensures in
+    sym (length-take-le c.allowed_prefix-at.result a.bytes.now there)
+
+pub overflow_cast-at : goal.overflow_cast-at
+overflow_cast-at c =
+    let a = c.args in
+    omega (
+      arith,
+      block_most a.s.frame.kind,
+      fits a.s a.grid.now a.bytes.now c.is_in_payload.ensures c.if-is_in_payload-grid.false c.block_length.ensures c.part_of_kind.ensures c.min.ensures
+          c.allowed_prefix-at.ensures,
+    )
+
+pub overflow_add-f : goal.overflow_add-f
+overflow_add-f c =
+    let a = c.args in
+    omega (
+      arith,
+      block_most a.s.frame.kind,
+      fits a.s a.grid.now a.bytes.now c.is_in_payload.ensures c.if-is_in_payload-grid.false c.block_length.ensures c.part_of_kind.ensures c.min.ensures
+          c.allowed_prefix-at.ensures,
+    )
 
 pub returns : goal.returns
 returns c =
     let a = c.args in
-    let size = c.block_length.ensures in
-    c.payload_passed.ensures
-    ∙ ap (λ xs. run a.s a.grid.now xs 0)
-    (some a.s a.grid.now a.bytes.now c.least-n.result (tested (length a.grid.now) c.is_in_payload.ensures c.if-is_in_payload-grid.false)
-    (c.least-n.ensures ∙ ap (λ m. min (m - a.s.frame.place) (length a.bytes.now)) size))
+    let s = a.s in
+    let g = a.grid.now in
+    let bytes = a.bytes.now in
+    let n = c.allowed_prefix-at.result in
+    let xs = take n bytes in
+    let e = c.is_in_payload.ensures in
+    let f = c.if-is_in_payload-grid.false in
+    let (there, within) = fits s g bytes e f c.block_length.ensures c.part_of_kind.ensures c.min.ensures c.allowed_prefix-at.ensures in
+    let all : length xs ≡ n = length-take-le n bytes there in
+    let room = put_fits g c.payload_base.result xs (omega (arith, c.payload_base.ensures.place_bound, within, all, long s g bytes e f)) in
+    payload_passed_on s (in_payload s g bytes e f) xs g
+    (rule s g bytes e f c.block_length.ensures c.part_of_kind.ensures c.min.ensures c.allowed_prefix-at.ensures) all within
+    (c.put.ensures ∙ room ∙ ap (λ i. sets g i xs) c.payload_base.ensures.value) c.check_behind-check.ensures c.state_behind.ensures
+    ∙ ap (λ i. run s g (take i bytes) 0)
+    (sym (ahead_is s g bytes e f c.block_length.ensures c.part_of_kind.ensures c.min.ensures c.allowed_prefix-at.ensures))

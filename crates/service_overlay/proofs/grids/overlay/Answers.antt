@@ -4,7 +4,7 @@ use mathlib.Core.Bool.{◌&&◌}
 use Rattle.service_overlay_spec.specs.Overlay.{overlaid}
 use Rattle.service_overlay.specs.Returned.{outcome_of}
 use Rattle.text_laws.proofs.Payload.{intensity_is_payload}
-use Rattle.service_overlay.proofs.Overlaying.{no_grids, one_length}
+use Rattle.service_overlay.proofs.Overlaying.{no_grids}
 use Rattle.service_overlay.proofs.grids.overlay.Goals as goal
 
 pub returns-then-first-second : goal.returns-then-first-second
@@ -21,12 +21,6 @@ returns-then-not-are_payload_bytes c =
       no_grids a.first.now a.second.now a.third.now ∙ c.if-first-second.false,
       ap₂ (λ x y. x && y) (intensity_is_payload _ ∙ sym c.are_payload_bytes.ensures) (intensity_is_payload _ ∙ sym c.are_payload_bytes-2.ensures) ∙ c.if-not-are_payload_bytes.true,
     )
-
-pub overlay_bytes-requires : goal.overlay_bytes-requires
-overlay_bytes-requires c =
-    let a = c.args in
-    let (p, q) = one_length a.first.now a.second.now a.third.now c.if-first-second.false in
-    record { first_len = p; second_len = q }
 
 pub returns : goal.returns
 unfolding outcome_of overlaid

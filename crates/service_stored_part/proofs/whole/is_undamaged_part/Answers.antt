@@ -20,6 +20,6 @@ feed_all-fed-requires c = refl
 pub returns : goal.returns
 returns c =
     let bytes = c.args.bytes.now in
-    ap₂ (λ a n. eqb a 3 && eqb (length bytes) n) c.feed_all-fed.ensures.answer_value
+    ap₂ (λ t n. t && eqb (length bytes) n) (c.is_complete.ensures ∙ ap (λ a. eqb a 3) c.feed_all-fed.ensures.answer_value)
     (c.part_length.ensures ∙ ap₂ part_length c.part_of_kind-part.ensures (ap (λ (s : State). s.header.noecho) c.feed_all-fed.ensures.state_value))
     ∙ decided bytes (omega (arith, c.if-bytes-lt80.false))

@@ -1,60 +1,24 @@
--- The bytes so far stand in the output, or nothing was put. Assumes nothing.
-use mathlib.Core.Path.{refl, ap, ◌∙◌}
-use Prim.Native.Nat.{◌+◌}
-use native.Mathlib.Omega.{arith}
-use lib.ListN.{length, take}
-use lib.Seq.{sets, length-sets, take_all}
+-- Bytes that fit replace as many at their place; where they do not, the output stays. Assumes nothing.
+use Rattle.std.proofs.Common.{◌≡◌, ◌+◌, ◌-◌, ◌≤◌, length, arith, ap, ◌∙◌, drop, take, ◌++◌, List, ℕ}
+use Rattle.std.proofs.lemmas.List.{drop-drop, append_assoc}
+use Rattle.std.proofs.lemmas.List.Edits.{sets-eq}
 use borrow.Author.Tests.{le-leb, lt-leb}
 use Rattle.general_laws.specs.Bytes.{put_at}
-use Rattle.general_laws.proofs.Lists.{sets_on}
+use Rattle.general_laws.proofs.Lists.{width}
 use Rattle.text.proofs.bytes.put.Goals as goal
 
-pub returns-then-output-bytes : goal.returns-then-output-bytes
+pub returns-then-end-output : goal.returns-then-end-output
 unfolding put_at
-returns-then-output-bytes c =
+returns-then-end-output c =
     let a = c.args in
-    rw (lt-leb (a.at + length a.bytes.now) (length a.output.now) (omega (arith, c.if-output-bytes.true)))
+    let at_end : c.saturating_add-end.result ≡ a.at + length a.bytes.now = omega (arith, c.well_formed) in
+    let fits : a.at + length a.bytes.now ≤ length a.output.now = omega arith in
+    rw (le-leb (a.at + length a.bytes.now) (length a.output.now) fits, sets-eq a.bytes.now a.output.now a.at fits, append_assoc (take a.at a.output.now), c.copy_from_slice.ensures.after)
+    (ap (λ (behind : List ℕ). take a.at a.output.now ++ (a.bytes.now ++ behind))
+    (ap (λ k. drop k (drop a.at a.output.now)) (ap (λ n. n - a.at) at_end ∙ width a.at (length a.bytes.now)) ∙ drop-drop (length a.bytes.now) a.at a.output.now))
 
-pub returns-then-output-bytes-2 : goal.returns-then-output-bytes-2
+pub returns-else-end-output : goal.returns-else-end-output
 unfolding put_at
-returns-then-output-bytes-2 c =
+returns-else-end-output c =
     let a = c.args in
-    rw (lt-leb (a.at + length a.bytes.now) (length a.output.now) (omega (arith, c.if-output-bytes-2.true, c.if-output-bytes.false)))
-
-pub overflow_add-output : goal.overflow_add-output
-overflow_add-output c =
-    omega (arith, c.loop-i-test.true, c.if-output-bytes-2.false, c.if-output-bytes.false, c.well_formed)
-
-pub bounds-output-at : goal.bounds-output-at
-bounds-output-at c =
-    let a = c.args in
-    omega (
-      arith,
-      c.loop-i-test.true,
-      c.if-output-bytes-2.false,
-      c.if-output-bytes.false,
-      ap length c.loop-i.invariant.1,
-      length-sets a.output.now a.at (take c.loop-i.i a.bytes.now),
-    )
-
-pub loop-i-preserved : goal.loop-i-preserved
-loop-i-preserved c =
-    let a = c.args in (
-      omega (arith, c.loop-i-test.true),
-      rw c.loop-i.invariant.1 (sets_on a.bytes.now c.loop-i.i c.loop-i-test.true a.output.now a.at),
-    )
-
-pub shape_of-output : goal.shape_of-output
-shape_of-output c =
-    let a = c.args in
-    ap length c.loop-i.invariant.1 ∙ length-sets a.output.now a.at (take c.loop-i.i a.bytes.now)
-
-pub returns : goal.returns
-unfolding put_at
-returns c =
-    let a = c.args in
-    rw (le-leb (a.at + length a.bytes.now) (length a.output.now) (omega (arith, c.if-output-bytes-2.false, c.if-output-bytes.false)))
-    (c.loop-i.invariant.1 ∙ ap (sets a.output.now a.at) (take_all c.loop-i.i a.bytes.now (omega (arith, c.loop-i-test.false))))
-
-pub loop-i-init : goal.loop-i-init
-loop-i-init c = (omega arith, refl)
+    rw (lt-leb (a.at + length a.bytes.now) (length a.output.now) (omega (arith, c.well_formed)))

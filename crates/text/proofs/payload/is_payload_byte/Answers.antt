@@ -1,20 +1,26 @@
--- Each way out is a case of the definition. Assumes nothing.
-use borrow.Author.Tests.{eq-eqb, ne_eqb}
+-- Each part's rule, and none where there is no such part. Assumes nothing.
+use Rattle.std.proofs.Common.{◌≢◌, arith}
+use borrow.Author.Tests.{ne_eqb}
 use Rattle.text.specs.DataBlock.{odd_level, even_level, is_intensity_byte, is_top_byte, is_quality_byte, is_payload_byte}
 use Rattle.text.proofs.payload.is_payload_byte.Goals as goal
 
-pub returns-then-part-eq1 : goal.returns-then-part-eq1
-unfolding odd_level even_level is_intensity_byte is_top_byte is_quality_byte is_payload_byte
-returns-then-part-eq1 c = simp (eq-eqb _ _ c.if-part-eq1.true)
+pub returns-in-1 : goal.returns-in-1
+unfolding odd_level even_level is_intensity_byte is_payload_byte
+returns-in-1 c = simp c.in-1.is
 
-pub returns-then-part-eq2 : goal.returns-then-part-eq2
-unfolding odd_level even_level is_intensity_byte is_top_byte is_quality_byte is_payload_byte
-returns-then-part-eq2 c = simp (ne_eqb _ _ c.if-part-eq1.false, eq-eqb _ _ c.if-part-eq2.true)
+pub returns-in-2 : goal.returns-in-2
+unfolding is_top_byte is_payload_byte
+returns-in-2 c = simp c.in-2.is
 
-pub returns-then-part-eq3 : goal.returns-then-part-eq3
-unfolding odd_level even_level is_intensity_byte is_top_byte is_quality_byte is_payload_byte
-returns-then-part-eq3 c = simp (ne_eqb _ _ c.if-part-eq1.false, ne_eqb _ _ c.if-part-eq2.false, eq-eqb _ _ c.if-part-eq3.true)
+pub returns-in-3 : goal.returns-in-3
+unfolding is_quality_byte is_payload_byte
+returns-in-3 c = simp c.in-3.is
 
-pub returns : goal.returns
-unfolding odd_level even_level is_intensity_byte is_top_byte is_quality_byte is_payload_byte
-returns c = simp (ne_eqb _ _ c.if-part-eq1.false, ne_eqb _ _ c.if-part-eq2.false, ne_eqb _ _ c.if-part-eq3.false)
+pub returns-in_default : goal.returns-in_default
+unfolding is_payload_byte
+returns-in_default c =
+    let part = c.args.part in
+    let not_1 : part ≢ 1 = omega arith in
+    let not_2 : part ≢ 2 = omega arith in
+    let not_3 : part ≢ 3 = omega arith in
+    simp (ne_eqb part 1 not_1, ne_eqb part 2 not_2, ne_eqb part 3 not_3)

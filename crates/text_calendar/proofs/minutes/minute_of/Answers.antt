@@ -13,11 +13,11 @@ use Rattle.text_calendar.proofs.minutes.minute_of.Goals as goal
 
 pub from_epoch-requires : goal.from_epoch-requires
 from_epoch-requires c =
-    let a = c.args in
+    let t = c.args.t in
     omega (
       arith,
       c.minutes_before.ensures,
-      minute_fits _ _ _ _ _ (in_calendar a.year a.month a.day a.hour a.minute c.requires),
+      minute_fits _ _ _ _ _ (in_calendar t.year t.month t.day t.hour t.minute c.requires),
     )
 
 pub returns : goal.returns

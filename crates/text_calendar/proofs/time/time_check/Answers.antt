@@ -14,21 +14,21 @@ year : (a b c d : ℕ) → (a * 10 + b) * 100 + (c * 10 + d) ≡ a * 1000 + b * 
 year a b c d = omega arith
 
 -- the test of the code is that of the definition, and the minute that it works out is too
-pub returns-then-small-is_moment : goal.returns-then-small-is_moment
+pub returns-then-small-is_in_calendar : goal.returns-then-small-is_in_calendar
 unfolding time_check is_time minute_in year_of
-returns-then-small-is_moment c =
+returns-then-small-is_in_calendar c =
     let ds = c.args.digits in
     let f : SFits w64 c.minute_of.result = search rules in
-    let timed : (c.are_digits-small.result && c.is_moment.result) ≡ is_time ds =
+    let timed : (c.are_digits-small.result && c.is_in_calendar.result) ≡ is_time ds =
     simp (
       c.are_digits-small.ensures,
+      c.is_in_calendar.ensures,
       c.two_digits.ensures,
       c.two_digits-2.ensures,
-      c.two_digits-month.ensures,
-      c.two_digits-day.ensures,
-      c.two_digits-hour.ensures,
-      c.two_digits-minute.ensures,
-      c.is_moment.ensures,
+      c.two_digits-3.ensures,
+      c.two_digits-4.ensures,
+      c.two_digits-5.ensures,
+      c.two_digits-6.ensures,
       year,
     ) in
     let read : c.minute_of.result ≡ minute_in ds =
@@ -36,27 +36,27 @@ returns-then-small-is_moment c =
     ∙ simp (
       c.two_digits.ensures,
       c.two_digits-2.ensures,
-      c.two_digits-month.ensures,
-      c.two_digits-day.ensures,
-      c.two_digits-hour.ensures,
-      c.two_digits-minute.ensures,
+      c.two_digits-3.ensures,
+      c.two_digits-4.ensures,
+      c.two_digits-5.ensures,
+      c.two_digits-6.ensures,
       year,
     ) in
-    rw (to_z-of_z f, read, sym timed ∙ c.if-small-is_moment.true)
+    rw (to_z-of_z f, read, sym timed ∙ c.if-small-is_in_calendar.true)
 
 pub returns : goal.returns
 unfolding time_check is_time year_of
 returns c =
-    let timed : (c.are_digits-small.result && c.is_moment.result) ≡ is_time c.args.digits =
+    let timed : (c.are_digits-small.result && c.is_in_calendar.result) ≡ is_time c.args.digits =
     simp (
       c.are_digits-small.ensures,
+      c.is_in_calendar.ensures,
       c.two_digits.ensures,
       c.two_digits-2.ensures,
-      c.two_digits-month.ensures,
-      c.two_digits-day.ensures,
-      c.two_digits-hour.ensures,
-      c.two_digits-minute.ensures,
-      c.is_moment.ensures,
+      c.two_digits-3.ensures,
+      c.two_digits-4.ensures,
+      c.two_digits-5.ensures,
+      c.two_digits-6.ensures,
       year,
     ) in
-    rw (sym timed ∙ c.if-small-is_moment.false)
+    rw (sym timed ∙ c.if-small-is_in_calendar.false)

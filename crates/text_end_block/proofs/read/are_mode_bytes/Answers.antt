@@ -1,14 +1,9 @@
--- The loop has found the right byte for each radar below i; i runs to eight. Assumes nothing.
+-- The loop has found the right byte for each radar below i; all eight are behind it. Assumes nothing.
 use mathlib.Core.Path.{sym, ◌∙◌}
-use mathlib.Core.Bool.{true}
 use native.Mathlib.Omega.{arith}
 use borrow.Author.Count.{below_more}
-use Rattle.text.specs.EndBlock.{is_mode_byte}
 use Rattle.general_laws.proofs.Places.{places_true, places_false}
 use Rattle.text_end_block.proofs.read.are_mode_bytes.Goals as goal
-
-pub loop-i-init : goal.loop-i-init
-loop-i-init c = (omega arith, λ k l. absurd (omega arith))
 
 pub returns-then-not-is_mode_byte : goal.returns-then-not-is_mode_byte
 returns-then-not-is_mode_byte c =
@@ -19,7 +14,7 @@ returns-then-not-is_mode_byte c =
 pub loop-i-preserved : goal.loop-i-preserved
 loop-i-preserved c =
     let right = sym c.is_mode_byte.ensures ∙ c.if-not-is_mode_byte.false in
-    (omega arith, below_more _ _ c.loop-i.invariant.1 right)
+    below_more _ _ c.loop-i.invariant right
 
 pub returns : goal.returns
-returns c = sym (places_true _ 0 8 (λ k l m. c.loop-i.invariant.1 k (omega arith)))
+returns c = sym (places_true _ 0 8 (λ k l m. c.loop-i.invariant k (omega arith)))

@@ -1,27 +1,31 @@
--- The loop has found the right mode at each place below i; i runs to eight. Assumes nothing.
-use mathlib.Core.Path.{sym, ◌∙◌}
-use mathlib.Core.Bool.{true}
-use native.Mathlib.Omega.{arith}
-use borrow.Author.Count.{below_more}
+-- The modes are right where those of the places that are left are. Assumes nothing.
+use mathlib.Core.Path.{◌≡◌, sym, ◌∙◌}
+use mathlib.Core.Logic.{inl, inr}
+use Prim.Native.Nat.{ℕ}
+use borrow.Author.Rules.{rules}
+use mathlib.Core.List.{List}
+use lib.ListN.{length}
 use Rattle.text.specs.WriterInput.{is_mode_for, are_modes_for}
-use Rattle.general_laws.proofs.Places.{places_true, places_false}
+use Rattle.text_radars.proofs.Pairs.{pairs, passed, failed, ended, of_eight}
 use Rattle.text_radars.proofs.places.are_modes_for.Goals as goal
 
-pub loop-i-init : goal.loop-i-init
-loop-i-init c = (omega arith, λ k l. absurd (omega arith))
+said : (rs ms : List ℕ) → length rs ≡ 8 → length ms ≡ 8 → pairs is_mode_for rs ms ≡ are_modes_for rs ms
+unfolding are_modes_for
+said rs ms p q = of_eight is_mode_for rs ms p q
 
 pub returns-then-not-is_mode_for : goal.returns-then-not-is_mode_for
-unfolding are_modes_for
 returns-then-not-is_mode_for c =
-    sym (
-    places_false _ 0 8 c.loop-i.i (omega arith) (omega arith)
-    (sym c.is_mode_for.ensures ∙ c.if-not-is_mode_for.true))
+    failed _ _ _ _ _ _ _ c.in-Some.ensures.steps (sym c.is_mode_for.ensures ∙ c.if-not-is_mode_for.true)
+    ∙ c.loop-radar.invariant
+    ∙ said c.args.radars c.args.modes (search rules) (search rules)
 
-pub loop-i-preserved : goal.loop-i-preserved
-loop-i-preserved c =
-    let right = sym c.is_mode_for.ensures ∙ c.if-not-is_mode_for.false in
-    (omega arith, below_more _ _ c.loop-i.invariant.1 right)
+pub loop-radar-preserved : goal.loop-radar-preserved
+loop-radar-preserved c =
+    passed _ _ _ _ _ _ _ c.in-Some.ensures.steps (sym c.is_mode_for.ensures ∙ c.if-not-is_mode_for.false)
+    ∙ c.loop-radar.invariant
 
 pub returns : goal.returns
-unfolding are_modes_for
-returns c = sym (places_true _ 0 8 (λ k l m. c.loop-i.invariant.1 k (omega arith)))
+returns c =
+    ended _ _ _ (elim c.in-None.ensures.steps [ inl p ↦ inl p.1.0 | inr p ↦ inr p.1.0 ])
+    ∙ c.loop-radar.invariant
+    ∙ said c.args.radars c.args.modes (search rules) (search rules)

@@ -1,8 +1,8 @@
--- The highest mode is the larger of what the loop has found and the highest of what is left; i runs to eight. Assumes nothing.
+-- The highest mode is the larger of what the loop has found and the highest of what is left. Assumes nothing.
 use mathlib.Core.Path.{◌≡◌, sym, ◌∙◌}
 use mathlib.Core.List.{List}
 use Prim.Native.Nat.{ℕ, suc, ◌+◌, ◌<◌, ◌≤◌, max}
-use native.Mathlib.Nat.{zero-max, max-zero}
+use native.Mathlib.Nat.{max-zero}
 use native.Mathlib.Numerals.{add-one}
 use native.Mathlib.Omega.{arith}
 use lib.ListN.{length, drop, drop_of_length-le}
@@ -26,17 +26,13 @@ over : (ms : List ℕ) (high i : ℕ) → length ms ≤ i → max high (highest 
 unfolding highest
 over ms high i h = rw (drop_of_length-le ms h) (max-zero high)
 
-pub loop-i-init : goal.loop-i-init
-loop-i-init c = (omega arith, zero-max (highest c.args.modes))
-
-pub loop-i-preserved : goal.loop-i-preserved
-loop-i-preserved c =
-    let at = c.loop-i in
-    (omega arith, rw c.larger-high.ensures (turn c.args.modes at.high at.i (search rules) ∙ at.invariant.1))
+pub loop-m-preserved : goal.loop-m-preserved
+loop-m-preserved c =
+    let at = c.loop-m in
+    let larger : c.max-high.result ≡ max at.high (c.args.modes ! at.m-index) = search rules in
+    rw larger (turn c.args.modes at.high at.m-index (search rules) ∙ at.invariant)
 
 pub returns : goal.returns
 returns c =
-    let at = c.loop-i in
-    let modes = c.args.modes in
-    let eight : length modes ≡ 8 = search rules in
-    sym (over modes at.high at.i (omega arith)) ∙ at.invariant.1
+    let at = c.loop-m in
+    sym (over c.args.modes at.high at.m-index (search rules)) ∙ at.invariant

@@ -1,11 +1,9 @@
--- Each turn takes a byte at least and no more than are left; the grid keeps its length. Assumes nothing.
-use mathlib.Core.Path.{◌≡◌}
-use Prim.Native.Nat.{◌≤◌, ◌-◌}
-use lib.ListN.{length}
+-- Each turn takes a byte at least; the grid keeps its length. Assumes nothing.
+use Rattle.std.proofs.Common.{◌≡◌, length}
 use Rattle.try_writer.proofs.read_back.read_back.Given as goal
 
-abbrev pub invariant-loop-at : goal.invariant-loop-at
-invariant-loop-at g l = (l.at ≤ length l.bytes) × (length l.grid ≡ 20000)
+abbrev pub invariant-loop-rest : goal.invariant-loop-rest
+invariant-loop-rest g l = length l.grid ≡ 20000
 
-abbrev pub decreases-loop-at : goal.decreases-loop-at
-decreases-loop-at g l = length l.bytes - l.at
+abbrev pub decreases-loop-rest : goal.decreases-loop-rest
+decreases-loop-rest g l = length l.rest

@@ -1,7 +1,6 @@
--- The modes that are left, put from place i on, give the definition; i runs to eight. Assumes nothing.
+-- The modes that are left, put from place i on, give the definition. Assumes nothing.
 use mathlib.Core.Path.{◌≡◌}
 use mathlib.Core.List.{map}
-use Prim.Native.Nat.{◌-◌, ◌≤◌}
 use lib.ListN.{drop}
 use lib.Seq.{sets}
 use Rattle.text.specs.StartBlock.{mode_byte}
@@ -9,7 +8,4 @@ use Rattle.writer_spec.specs.Written.{end_contents}
 use Rattle.writer.proofs.contents.end_contents.Given as goal
 
 abbrev pub invariant-loop-i : goal.invariant-loop-i
-invariant-loop-i l = (l.i ≤ 8) × (sets l.contents l.i (map mode_byte (drop l.i l.modes)) ≡ end_contents l.modes)
-
-abbrev pub decreases-loop-i : goal.decreases-loop-i
-decreases-loop-i l = 8 - l.i
+invariant-loop-i l = sets l.contents l.i (map mode_byte (drop l.i l.fn.modes)) ≡ end_contents l.fn.modes

@@ -2,22 +2,23 @@
 use mathlib.Core.Path.{◌≡◌, sym, ap, ap₂, ◌∙◌}
 use mathlib.Core.Bool.{Bool, true}
 use mathlib.Core.List.{List, ◌∷◌, ◌++◌}
-use Prim.Native.Nat.{ℕ}
+use Prim.Native.Nat.{ℕ, ◌<◌, ◌≤◌}
 use lib.Dec.{leb}
 use lib.IntN.{ℤ}
 use lib.ListN.{length, replicate}
 use borrow.Author.Rules.{rules}
+use borrow.Author.Tests.{leb-true}
 use mir.Syntax.{w64}
 use mir.Val.{SFits, to_z, of_z}
 use mir.Facts.{to_z-of_z}
-use Rattle.general_laws.specs.Bytes.{every, put_at}
+use Rattle.general_laws.specs.Bytes.{◌!◌, every, put_at}
 use Rattle.text_calendar_spec.specs.Minutes.{is_minute}
 use Rattle.text_calendar_spec.specs.TimeDigits.{is_time, digits_at}
 use Rattle.text.specs.StartBlock.{mode_byte, clock_bytes}
 use Rattle.text.specs.EndBlock.{highest}
 use Rattle.text.specs.declared.header.WriterHeader.{WriterHeader}
 use Rattle.general_laws.proofs.Places.{by_place}
-use Rattle.general_laws.proofs.Tests.{and_split}
+use Rattle.general_laws.proofs.Tests.{and_split, every_at}
 use Rattle.text_calendar_spec.proofs.Laws.{minute_kept}
 use Rattle.writer_spec.specs.Written.{status_byte, time_text, start_contents}
 use Rattle.writer.proofs.contents.start_contents.Goals.{then-noecho, else-noecho}
@@ -45,9 +46,11 @@ module _ (no_echo : Bool) (h : WriterHeader) (modes : List ℕ) (eight : length 
       ∙ all
 
 -- a minute of the years has digits 0 to 9
-small : (z : ℤ) → is_minute z ≡ true → every (λ d. leb d 9) (digits_at z) ≡ true
+small : (z : ℤ) → is_minute z ≡ true → (i : ℕ) → i < length (digits_at z) → digits_at z ! i ≤ 9
 unfolding is_time
-small z h = (and_split (every (λ d. leb d 9) (digits_at z)) _ (minute_kept z h).1).0
+small z h i l =
+    let digits = digits_at z in
+    leb-true (digits ! i) 9 (every_at (λ d. leb d 9) digits (and_split (every (λ d. leb d 9) digits) _ (minute_kept z h).1).0 i l)
 
 -- the digits worked out are those of the header's minute
 minuted : {digits : List ℕ} {z : ℤ} → SFits w64 z → digits ≡ digits_at (to_z w64 (of_z w64 z)) → digits ≡ digits_at z

@@ -19,7 +19,4 @@ pub record TextsToWrite (output₀ : List ℕ) (part picture : ℕ) (payload : L
 
 abbrev pub invariant-loop-k : goal.invariant-loop-k
 invariant-loop-k l =
-    TextsToWrite l.initial.output l.part l.picture l.payload l.last l.size l.output l.k l.at l.from
-
-abbrev pub decreases-loop-k : goal.decreases-loop-k
-decreases-loop-k l = suc l.last - l.k
+    TextsToWrite l.initial.output l.part l.picture l.payload l.last l.size l.output l.k (40 + (l.k - 1) * (l.size + 11)) ((l.k - 1) * l.size)

@@ -8,6 +8,7 @@ use lib.Dec.{eqb, ltb}
 use lib.ListN.{length, drop}
 use borrow.Author.Rules.{rules}
 use borrow.Author.Tests.{le-ltb, lt-ltb, not-true, not-false}
+use Rattle.std.specs.Prelude.{Ok}
 use Rattle.text.specs.Kinds.{is_part_number, part_length}
 use Rattle.text.specs.Part.{part_bytes}
 use Rattle.text.specs.WriterInput.{is_writer_input}
@@ -15,7 +16,6 @@ use Rattle.text.specs.declared.header.WriterHeader.{WriterHeader}
 use Rattle.general_laws.proofs.Tests.{out_of}
 use Rattle.writer_spec.specs.Written.{is_payload, writes_no_echo, written_part, writes, bytes_written, WriteOutcome}
 use Rattle.writer.specs.Returned.{answer_of, count_of, outcome_of}
-use Rattle.writer.specs.declared.part.WriteResult.TheVariants.{Bytes}
 use Rattle.writer.proofs.PutTexts.{sets_front, payload_long, written_long}
 use Rattle.writer.proofs.part.write_part.Goals as goal
 
@@ -32,7 +32,7 @@ inside p h = not-false _ (out_of 3 p ∙ h)
 taken :
     (p : ℕ) (h : WriterHeader) (modes payload output : List ℕ) {n : ℕ} {last : List ℕ} → is_part_number p ≡ true → is_writer_input h modes ≡ true → is_payload p payload ≡ true →
     n ≡ part_length p (writes_no_echo p payload) → n ≤ length output → last ≡ part_bytes (written_part p h modes payload) ++ drop n output →
-    outcome_of (Bytes n) last ≡ writes p h modes payload output
+    outcome_of (Ok n) last ≡ writes p h modes payload output
 unfolding writes outcome_of answer_of count_of
 taken p h modes payload output {n} {last} known input payload_long long room e =
     let most : ltb (length output) (part_length p (writes_no_echo p payload)) ≡ false = le-ltb (length output) (part_length p (writes_no_echo p payload)) (omega arith) in

@@ -1,0 +1,2 @@
+-- A list of zeros. Assumes nothing.
+pub mod Zeros

@@ -1,0 +1,2 @@
+-- The rows that refusals stand for. Assumes nothing.
+pub mod Rows

@@ -1,7 +1,0 @@
--- The record of the definition. Assumes nothing.
-use Rattle.text.specs.Kinds.{is_start_kind}
-use Rattle.text_kinds.proofs.table.is_start_kind.Goals as goal
-
-pub returns : goal.returns
-unfolding is_start_kind
-returns c = simp (c.text_of_kind.ensures, c.is_kind.ensures)

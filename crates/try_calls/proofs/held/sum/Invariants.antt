@@ -1,9 +1,0 @@
--- Both sums stay below 65,521; the measure is what is left of the grid. Assumes nothing.
-use Rattle.std.proofs.Common.{◌<◌, ◌-◌, length}
-use Rattle.try_calls.proofs.held.sum.Given as goal
-
-abbrev pub invariant-loop-i : goal.invariant-loop-i
-invariant-loop-i l = (l.low < 65521) × (l.high < 65521)
-
-abbrev pub decreases-loop-i : goal.decreases-loop-i
-decreases-loop-i l = length l.grid - l.i

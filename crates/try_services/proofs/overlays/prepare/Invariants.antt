@@ -1,9 +1,0 @@
--- The grid keeps its length. The measure is what is left of it. Assumes nothing.
-use Rattle.std.proofs.Common.{◌≡◌, ◌-◌, length}
-use Rattle.try_services.proofs.overlays.prepare.Given as goal
-
-abbrev pub invariant-loop-i : goal.invariant-loop-i
-invariant-loop-i l = length l.third ≡ length l.initial.third
-
-abbrev pub decreases-loop-i : goal.decreases-loop-i
-decreases-loop-i l = length l.initial.third - l.i

@@ -1,0 +1,10 @@
+-- A slice call takes no more bytes than it is given. Assumes nothing.
+use Rattle.std.proofs.Common.{rules}
+use Rattle.receiver_slice_call.proofs.Laws.{count_most}
+use Rattle.try_traffic.proofs.runs.Both.by_slice.Goals as goal
+
+pub split_at-requires : goal.split_at-requires
+split_at-requires g c = count_most c.slice_call-result.result _ _ _ _ c.slice_call-result.ensures.grid_after
+
+pub returns : goal.returns
+returns g c = search (rules, count_most c.slice_call-result.result _ _ _ _ c.slice_call-result.ensures.grid_after)
