@@ -6,13 +6,14 @@ use std::io::Write;
 // What bit 7 alone says: the cause is unknown. Notice 49, 4(2)(d)(ウ); Request 107
 const UNKNOWN: u8 = 0x80;
 
-// The causes that a value names: the place of each of bits 0 to 6 that is set.
+// The causes that a value names: the place of each of bits 0 to 6 that is set. Each is one write of
+// two bytes: the output has no buffer, and a value names up to seven.
 // Notice 49, 4(2)(d)(ウ); Request 107
 fn put_causes<W: Write>(out: &mut W, value: u8) -> io::Result<()> {
     write!(out, "causes")?;
     for cause in 0..7u8 {
         if value >> cause & 1 == 1 {
-            write!(out, " {cause}")?;
+            out.write_all(&[b' ', b'0' + cause])?;
         }
     }
     Ok(())

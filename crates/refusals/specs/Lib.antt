@@ -1,2 +1,3 @@
--- The rows that refusals stand for. Assumes nothing.
+-- The rows that refusals stand for, and their words. Assumes nothing.
 pub mod Rows
+pub mod Words

@@ -1,6 +1,7 @@
 // The refusals, and the rows of the table that they stand for.
-ghost use Rattle.std.specs.Prelude.{◌≡◌};
+ghost use Rattle.std.specs.Prelude.{◌≡◌, Some};
 ghost use Rattle.refusals.specs.Rows.{row_of};
+ghost use Rattle.refusals.specs.Words.{words_of};
 
 use std::error::Error;
 use std::fmt;
@@ -45,6 +46,8 @@ impl From<Refusal> for u8 {
 }
 
 impl fmt::Display for Refusal {
+    ghost output = { λ refusal. Some (words_of refusal) };
+
     fn fmt<W: fmt::Write>(&self, f: &mut fmt::Formatter<W>) -> fmt::Result {
         f.write_str(match self {
             Refusal::ReceiverGridLength => "the receiver's grid has not 20,000 bytes",

@@ -1,5 +1,5 @@
 // The end block, 32 bytes, and the modes that it gives.
-ghost use Rattle.std.specs.Prelude.{◌≡◌, ◌+◌};
+ghost use Rattle.std.specs.Prelude.{◌≡◌, ◌+◌, eqb, drop};
 ghost use Rattle.general_laws.specs.Bytes.{◌!◌, every};
 ghost use Rattle.text.specs.EndBlock.{radar_places, is_mode_byte, modes_of};
 ghost use Rattle.text_end_block.specs.Read.{end_read};
@@ -20,6 +20,13 @@ fn are_mode_bytes(radars: [u8; 8], block: &[u8; 32]) -> bool
         }
     }
     true
+}
+
+// Whether the bytes from byte 11 on are `00`. Notice 49, 4(1)(1-1)(c)(ウ)
+fn is_zero_behind(block: &[u8; 32]) -> bool
+    ensures { result ≡ every (λ b. eqb b 0) (drop 11 block.now) }
+{
+    are_zero(&block[11..])
 }
 
 // The modes of an end block. Notice 49, 4(1)(1-1)(c)(ウ) and (d)(イ)
@@ -43,7 +50,7 @@ fn read_whole(radars: [u8; 8], block: &[u8; 32]) -> Option<[u8; 8]>
     if !are_mode_bytes(radars, block) {
         return None;
     }
-    if !are_zero(&block[11..]) {
+    if !is_zero_behind(block) {
         return None;
     }
     Some(modes_of(block))

@@ -14,19 +14,21 @@ use std::io::Write;
 // The receiver after some bytes, and how many of them had each answer, at the answer's own number.
 // None is above 22: all pictures are marked here, so 51 never comes. No call is refused: the state is
 // fresh or a call's.
+// Grid and counts are lent by `main`, as locals of its own: inside this struct the grid, which nothing
+// here reads, would be cleared in memory at every drop, and that would be timed with the call.
 #[derive(Drop)]
-struct Counted {
+struct Counted<'a> {
     state: State,
-    grid: [u8; 20000],
-    counts: [u64; 23],
+    grid: &'a mut [u8; 20000],
+    counts: &'a mut [u64; 23],
 }
 
-impl Listener for Counted {
+impl<'a> Listener for Counted<'a> {
     // Gives each byte to the receiver, and counts the answers but 0. A count of 64 bits stays at its
     // end, which no input reaches
     fn take(&mut self, bytes: &[u8]) -> io::Result<bool> {
         for b in bytes {
-            let result = byte_call(self.state, &mut self.grid, *b);
+            let result = byte_call(self.state, self.grid, *b);
             self.state = result.state;
             let number = number_of(result.answer) as usize;
             if number != 0 && number < 23 {
@@ -49,13 +51,15 @@ fn print_counts<W: Write>(out: &mut W, counts: &[u64; 23]) -> io::Result<()> {
 
 fn main(rt: HostRuntime) -> io::Result<()> {
     let mut buffer = [0u8; 65536];
+    let mut grid = [0u8; 20000];
+    let mut counts = [0u64; 23];
     let mut counted = Counted {
         state: fresh(all_marks()),
-        grid: [0; 20000],
-        counts: [0; 23],
+        grid: &mut grid,
+        counts: &mut counts,
     };
     feed_all(&mut rt.stdin(), &mut buffer, &mut counted)?;
     let mut out = rt.stdout();
-    print_counts(&mut out, &counted.counts)?;
+    print_counts(&mut out, &counts)?;
     out.flush()
 }

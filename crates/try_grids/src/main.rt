@@ -35,19 +35,22 @@ fn total<W: Write>(out: &mut W, grid: &[u8], before: &[u8], after: &mut [u8]) ->
     Ok(laid.is_ok())
 }
 
-// Of two grids one holds the overlay, and the other takes the next.
+// Of two grids one holds the overlay, and the other takes the next: the two loans change places, no byte
+// is copied.
 // Stays a `for` with an end: a proved loop has to end, and nothing says that the input does. One that
 // need not (`rt.forever()`) takes `Wait`, which no function here does; this one has more turns than any
 // run uses up
 fn grids<R: Read, W: Write>(input: &mut R, out: &mut W) -> io::Result<()> {
     let mut grid = [0u8; 20000];
-    let mut laid = [0u8; 20000];
-    let mut next = [0u8; 20000];
+    let mut one = [0u8; 20000];
+    let mut two = [0u8; 20000];
+    let mut laid = &mut one;
+    let mut next = &mut two;
     for _ in 0..u64::MAX {
         if read_full(input, &mut grid)? != 20000 {
             break;
         }
-        if total(out, &grid, &laid, &mut next)? {
+        if total(out, &grid, laid, next)? {
             swap(&mut laid, &mut next);
         }
     }

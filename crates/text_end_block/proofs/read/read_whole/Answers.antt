@@ -1,19 +1,8 @@
 -- Each way out follows the rules in their order: the first that fails breaks the block. Assumes nothing.
-use mathlib.Core.Path.{◌≡◌, sym, ap, ◌∙◌}
-use mathlib.Core.List.{List}
-use Prim.Native.Nat.{ℕ}
-use native.Mathlib.Omega.{arith}
-use lib.Dec.{eqb}
-use lib.ListN.{length, take, drop, length-drop}
-use lib.Seq.{take_all}
-use Rattle.general_laws.specs.Bytes.{every}
+use mathlib.Core.Path.{sym, ◌∙◌}
 use Rattle.text_end_block.specs.Read.{end_read}
 use Rattle.text_end_block.proofs.Rules.{end_rules}
 use Rattle.text_end_block.proofs.read.read_whole.Goals as goal
-
--- all of the bytes behind the first 11
-rest : (block : List ℕ) → length block ≡ 32 → take 21 (drop 11 block) ≡ drop 11 block
-rest block l = take_all 21 (drop 11 block) (omega (arith, length-drop 11 block, l))
 
 pub returns-then-not-block-known : goal.returns-then-not-block-known
 unfolding end_read
@@ -38,9 +27,9 @@ returns-then-not-are_mode_bytes c =
       sym c.are_mode_bytes.ensures ∙ c.if-not-are_mode_bytes.true,
     )
 
-pub returns-then-not-are_zero : goal.returns-then-not-are_zero
+pub returns-then-not-is_zero_behind : goal.returns-then-not-is_zero_behind
 unfolding end_read
-returns-then-not-are_zero c =
+returns-then-not-is_zero_behind c =
     let a = c.args in
     simp (
       end_rules a.radars a.block.now c.told-block,
@@ -48,7 +37,7 @@ returns-then-not-are_zero c =
       sym c.is_end_kind.ensures,
       c.if-not-block-known.false,
       sym c.are_mode_bytes.ensures ∙ c.if-not-are_mode_bytes.false,
-      sym (c.are_zero.ensures ∙ ap (every (λ b. eqb b 0)) (rest c.args.block.now c.told-block)) ∙ c.if-not-are_zero.true,
+      sym c.is_zero_behind.ensures ∙ c.if-not-is_zero_behind.true,
     )
 
 pub returns : goal.returns
@@ -62,5 +51,5 @@ returns c =
       sym c.is_end_kind.ensures,
       c.if-not-block-known.false,
       sym c.are_mode_bytes.ensures ∙ c.if-not-are_mode_bytes.false,
-      sym (c.are_zero.ensures ∙ ap (every (λ b. eqb b 0)) (rest c.args.block.now c.told-block)) ∙ c.if-not-are_zero.false,
+      sym c.is_zero_behind.ensures ∙ c.if-not-is_zero_behind.false,
     )
